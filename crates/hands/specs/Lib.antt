@@ -1,0 +1,5 @@
+pub mod Kind
+pub mod Refusal
+pub mod Carry
+pub mod Tallies
+pub mod Totals

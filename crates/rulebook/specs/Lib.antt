@@ -1,0 +1,3 @@
+pub mod Funding
+pub mod Book
+pub mod Lawful
