@@ -43,3 +43,7 @@ module _ {H L : Type 0} (k : Kind H L) (row : List H) (i j : ℕ) (l : L) where
           let p′ : x ≡ k .given (getD row i d) l = p ∙ ap (λ z. k .given z l) (getD-default row i d′ d hi) in
           let q′ : y ≡ k .taken (getD row j e) l = q ∙ ap (λ z. k .taken z l) (getD-set-other row i j x e′ (λ r. ne (sym r)) ∙ getD-default row j e′ e hj) in
           rw (nth-getD row i d hi, nth-getD row j e hj, ne-eqb i j ne, ← t, ← f, p′, q′)
+
+-- a carry that nothing stands against
+pub granted : {H L : Type 0} (k : Kind H L) (row : List H) (i j : ℕ) (l : L) (a b : H) → nth row i ≡ Some a → nth row j ≡ Some b → i ≢ j → k .can-give a l ≡ true → k .can-take b l ≡ true → carried k row i j l ≡ (Ok tt, set (set row i (k .given a l)) j (k .taken b l))
+granted k row i j l a b p q ne g t = rw (p, q, ne-eqb i j ne, g, t)

@@ -9,6 +9,7 @@ use lib.Signed.{leZ, _≤ℤ_}
 use denote.Struct.Cover.{cover-one}
 use Rattle.std.proofs.shelf.Signed.{ints}
 use Rattle.std.proofs.shelf.Tests.{eqb-true, ne-eqb, cond-false, and-from}
+use Rattle.std.specs.declared.option.Option.{Option}
 use Rattle.std.specs.declared.option.Option.the-variants.{Some, None}
 use Rattle.hands.specs.Tallies.{Tally-laws}
 use Rattle.kinds.specs.Floor.{floor-marks}
@@ -60,6 +61,16 @@ is-taken c d n e m f = same-cash d (taken c n) (m ∙ sym (taken-marks c n (sym 
 pub is-new : (f : CashFloor) (m : ℤ) (d : Cash) → floor-marks f ≤ℤ m → m ≤ℤ pos 1000000 → d .marks ≡ m → d .floor ≡ f → Some d ≡ cash-new f m
 is-new f m d low high e g =
     passed (in-range f m) _ None (λ o. Some d ≡ o) (and-from _ _ (to-le (floor-marks f) m low) (to-le m (pos 1000000) high)) (λ _. ap Some (same-cash _ _ e g))
+
+abbrev or-made : Cash → Option Cash → Cash
+or-made c (Some d) = d
+or-made c None = c
+
+pub new-is : (f : CashFloor) (m : ℤ) (d : Cash) → Some d ≡ cash-new f m → (d .marks ≡ m) × (d .floor ≡ f)
+new-is f m d =
+    by-test (in-range f m) _ None (λ o. Some d ≡ o → (d .marks ≡ m) × (d .floor ≡ f))
+    (λ e s. (ap (λ o. or-made d o .marks) s, ap (λ o. or-made d o .floor) s))
+    (λ _ s. let z : _≡_ {A = ℕ} 0 1 = cc in absurd (omega arith))
 
 above : (b : Bool) (f m : ℤ) → f ≤ℤ m → cond b f (pos 0) ≤ℤ cond b m (pos 0)
 above true f m h = h

@@ -1,0 +1,4 @@
+// The opening cash of a table, dealt by carry from the bank to each seat.
+pub mod deal;
+pub mod opening;
+pub mod refusal;
