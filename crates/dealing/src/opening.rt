@@ -4,6 +4,7 @@ ghost use lib.ListN.{length};
 use kinds::cash::Cash;
 
 // The cash row of a new table without its companies: the bank, then the seats. Those beyond the players hold nothing.
+#[derive(Drop)]
 pub struct Opening {
     pub(crate) players: u8,
     pub(crate) cash: [Cash; 7],

@@ -4,6 +4,7 @@ ghost use Rattle.kinds.specs.Floor.{floor-marks};
 use crate::cash_floor::CashFloor;
 
 pub mod hand;
+pub mod value;
 
 // Marks in a hand, never below its floor nor above the ceiling.
 #[derive(Clone, Copy)]

@@ -1,6 +1,7 @@
 ghost use Prim.Native.Nat.{_<_};
 
 pub mod hand;
+pub mod value;
 
 // The certificates of one company in a hand, one bit for each of the nine.
 #[derive(Clone, Copy)]

@@ -3,6 +3,7 @@ ghost use Prim.Native.Nat.{ℕ, _≤_};
 ghost use lib.ListN.{length, getD};
 
 pub mod hand;
+pub mod value;
 
 // How many trains of each of the eight kinds a hand holds.
 #[derive(Clone, Copy)]

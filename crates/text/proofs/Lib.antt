@@ -1,0 +1,4 @@
+pub mod Added
+pub mod Bounds
+mod Signs
+mod WordDigits
