@@ -1,3 +1,4 @@
 pub mod Ways
 pub mod Orders
 pub mod Kept
+pub mod Accounts

@@ -73,12 +73,12 @@ module _ {H L : Type 0} (k : Kind H L) (row : List H) (i j : ℕ) (l : L) (P : O
   pub by-ways : P (carried k row i j l)
   by-ways = by-hands (nth row i) (nth row j) (eqb i j) refl refl refl
 
-nth-length : {X : Type 0} (xs : List X) (i : ℕ) (x : X) → nth xs i ≡ Some x → i < length xs
+pub nth-length : {X : Type 0} (xs : List X) (i : ℕ) (x : X) → nth xs i ≡ Some x → i < length xs
 nth-length [] i x e = let z : _≡_ {A = ℕ} 0 1 = cc in absurd (omega arith)
 nth-length (y ∷ ys) zero x e = omega arith
 nth-length (y ∷ ys) (suc i) x e = let h = nth-length ys i x e in omega arith
 
-read-at : {X : Type 0} (xs : List X) (i : ℕ) (d x : X) → nth xs i ≡ Some x → getD xs i d ≡ x
+pub read-at : {X : Type 0} (xs : List X) (i : ℕ) (d x : X) → nth xs i ≡ Some x → getD xs i d ≡ x
 read-at xs i d x e = let f : Some (getD xs i d) ≡ Some x = sym (nth-getD xs i d (nth-length xs i x e)) ∙ e in cc
 
 module _ {H L : Type 0} (k : Kind H L) (row : List H) (i j : ℕ) (l : L) where
