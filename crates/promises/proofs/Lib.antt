@@ -1,2 +1,5 @@
 pub mod Records
 pub mod Totals
+pub mod CashRow
+pub mod PaperRow
+pub mod TrainRow
