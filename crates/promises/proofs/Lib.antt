@@ -3,3 +3,13 @@ pub mod Totals
 pub mod CashRow
 pub mod PaperRow
 pub mod TrainRow
+pub mod Moved
+pub mod Sound
+pub mod Granted
+pub mod Payments
+pub mod TrainSales
+pub mod Subsets
+pub mod Seats
+pub mod Handovers
+pub mod Sales
+pub mod Purchases

@@ -1,1 +1,2 @@
 pub mod Conservation
+pub mod Accounts
