@@ -14,7 +14,7 @@ use Rattle.rulebook.specs.declared.split.Split.{Split}
 use Rattle.faults.specs.declared.table.TableRefusal.the-variants.{AlreadyPaidOut, AmountOutOfRange, RevenueOutOfRange, NoSuchMode, NoTrain, BankFloor, NotPaidOut, NotLowestKind, TrainOwed, CompanyOnTurn, WrongCard}
 use Rattle.ledger.specs.Answers.{Answer, granted, refused-if, and-then, by-carry, operating-card, on-operating-turn, below-floor}
 use Rattle.ledger.specs.Crossings.{Crossing, pays, moves, with-company, all-crossed, crossing-outcome}
-use Rattle.ledger.specs.Holdings.{bank, treasury, pool, stack, marks-at, company-of, tenths-at, seat-tenths, director, gone, lowest-kind, has-train, next-company}
+use Rattle.ledger.specs.Holdings.{bank, treasury, pool, stack, marks-at, company-of, tenths-at, seat-tenths, director, lowest-kind, has-train, next-company}
 use Rattle.ledger.specs.Stock.{with-round}
 use Rattle.ledger.specs.declared.books.Books.{Books}
 use Rattle.ledger.specs.declared.books.Stock.{Stock}
@@ -41,9 +41,17 @@ bill-after s company amount = all-crossed s (bill-crossings s company amount)
 
 -- PAYOUT
 
--- what the bank gives: d for each tenth gone from the offering, and what the company keeps
+-- what so many seats from one on get, d for each tenth
+abbrev pub dividend-sum : Books → ℕ → ℕ → ℕ → ℕ → ℕ
+dividend-sum s company d seat zero = 0
+dividend-sum s company d seat (suc n) = d * seat-tenths s company seat + dividend-sum s company d (suc seat) n
+
+-- what the company gets: what it keeps, and d for each tenth in the pool
+abbrev pub company-share : Books → ℕ → Split → ℕ
+company-share s company split = split .kept + split .dividend * tenths-at s company pool
+
 abbrev pub payout-sum : Books → ℕ → Split → ℕ
-payout-sum s company split = split .dividend * gone s company + split .kept
+payout-sum s company split = dividend-sum s company (split .dividend) 1 (s .players) + company-share s company split
 
 abbrev pub payout-granted : Books → ℕ → ℕ → Option Split → Answer
 payout-granted s company revenue None = Err NoSuchMode
@@ -66,7 +74,7 @@ abbrev pub payout-crossings : Books → ℕ → Option Split → List Crossing
 payout-crossings s company None = []
 payout-crossings s company (Some split) =
     dividends s company (split .dividend) 1 (s .players)
-    ++ (pays bank (treasury s company) (split .kept + split .dividend * tenths-at s company pool) ∷ [])
+    ++ (pays bank (treasury s company) (company-share s company split) ∷ [])
 
 abbrev pub with-space : Company → ℕ → Company
 with-space c space = record { papers = c .papers; space = space; par = c .par; floated = c .floated; sold = c .sold; served = c .served }

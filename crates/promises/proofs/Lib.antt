@@ -13,3 +13,6 @@ pub mod Seats
 pub mod Handovers
 pub mod Sales
 pub mod Purchases
+pub mod Payouts
+pub mod Companies
+pub mod Counts

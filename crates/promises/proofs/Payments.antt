@@ -18,7 +18,7 @@ use Rattle.kinds.proofs.Marks.{to-le, floor-range}
 use Rattle.rulebook.specs.Book.{Book}
 use Rattle.ledger.specs.Crossings.{Crossing, pays, crossing-outcome, crossed, all-crossed}
 use Rattle.ledger.specs.Holdings.{bank, no-cash, marks-at, seat-tenths}
-use Rattle.ledger.specs.Operating.{dividends}
+use Rattle.ledger.specs.Operating.{dividends, dividend-sum}
 use Rattle.ledger.specs.declared.books.Books.{Books}
 use Rattle.promises.specs.Accounts.{cash-hand}
 use Rattle.promises.proofs.CashRow.{pay-granted}
@@ -63,10 +63,6 @@ module _ (b : Book) (few : b .bank ≤ 50000) where
   the-others marks left m r rest h e = omega (arith, ints)
 
   -- dividends one seat after the other, by the tenths of the books before the first
-  abbrev pub dividend-sum : Books → ℕ → ℕ → ℕ → ℕ → ℕ
-  dividend-sum s company d seat zero = 0
-  dividend-sum s company d seat (suc n) = d * seat-tenths s company seat + dividend-sum s company d (suc seat) n
-
   pub dividends-granted : (before : Books) (company d treasury rest : ℕ) → 0 < treasury → treasury < 15 → (n seat : ℕ) → 0 < seat → seat + n ≤ 15 → (s : Books) → Sound b s
       → negsuc 19999 ≤ℤ (marks-at s bank -ℤ pos (dividend-sum before company d seat n + rest)) → Carriable s (dividends before company d seat n ++ (pays bank treasury rest ∷ []))
   dividends-granted before company d treasury rest low high zero seat first last s ok enough =

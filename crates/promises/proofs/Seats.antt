@@ -1,14 +1,13 @@
 -- The seats round the table: the seats after one, who of them has the most of a company, and who directs it.
 use mathlib.Core.Path.{_≡_, refl, sym, ap, subst, _∙_}
-use mathlib.Core.Bool.{true, false, cond}
+use mathlib.Core.Bool.{true}
 use mathlib.Core.Logic.{_≢_, _⊎_, inl, inr, ⊎-elim}
 use Prim.Native.Nat.{ℕ, zero, suc, _+_, _-_, _≤_, _<_}
 use native.Mathlib.Omega.{arith}
 use lib.Dec.{ltb}
-use Rattle.std.specs.declared.option.Option.{Option}
-use Rattle.std.specs.declared.option.Option.the-variants.{Some, None}
-use Rattle.std.proofs.shelf.Tests.{ltb-true, ltb-false, lt-ltb, le-ltb, cond-true, cond-false, cond-both, cases-lt, cases-bool, cases-eq, both-ways}
-use Rattle.ledger.specs.Holdings.{seat-papers, seat-tenths, holds-director, director-from, director, next-seat, seat-after, leader, largest-other}
+use Rattle.std.specs.declared.option.Option.the-variants.{Some}
+use Rattle.std.proofs.shelf.Tests.{ltb-true, ltb-false, lt-ltb, cond-true, cond-false, cond-both, cases-lt, cases-bool, cases-eq, both-ways}
+use Rattle.ledger.specs.Holdings.{seat-papers, seat-tenths, holds-director, director-from, director, seat-after, leader, largest-other}
 use Rattle.ledger.specs.declared.books.Books.{Books}
 
 -- of three numbers
