@@ -16,3 +16,10 @@ pub mod Purchases
 pub mod Payouts
 pub mod Companies
 pub mod Counts
+pub mod Turns
+pub mod Notes
+pub mod Calls
+pub mod Shapes
+pub mod Places
+pub mod Standing
+pub mod Ledgers
