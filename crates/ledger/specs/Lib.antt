@@ -5,3 +5,4 @@ pub mod Answers
 pub mod Stock
 pub mod Operating
 pub mod Lives
+pub mod Opening

@@ -23,3 +23,7 @@ pub mod Shapes
 pub mod Places
 pub mod Standing
 pub mod Ledgers
+pub mod EqualHands
+pub mod Rows
+pub mod Opened
+pub mod Whole

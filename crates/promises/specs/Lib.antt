@@ -1,3 +1,4 @@
 pub mod Conservation
 pub mod Accounts
 pub mod Lives
+pub mod Promises

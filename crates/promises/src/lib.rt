@@ -1,9 +1,16 @@
 // What stands for every life of a table, over every lawful rule book.
 ghost use Rattle.promises.specs.Conservation.{Calls-conserve};
+ghost use Rattle.promises.specs.Promises.{All-lives-stand};
 
-// Stands for its contract alone.
+// These stand for their contracts alone.
 pub fn calls_conserve() -> u8
     ensures { λ _. ⌜ Calls-conserve ⌝ }
+{
+    0
+}
+
+pub fn lives_stand() -> u8
+    ensures { λ _. ⌜ All-lives-stand ⌝ }
 {
     0
 }
