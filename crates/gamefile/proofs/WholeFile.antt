@@ -69,8 +69,7 @@ module _ (file : List ℕ) (small : Bytes file) where
         let exact = one-writing file small place (x .1) e p in
         let read = reading-by n file (x .1) .0 in
         let others = later (x .1) (omega (arith, exact .0)) h in
-        let rest = drop-drop (size e) place file ∙ ap (λ q. drop q file) (sym (exact .0)) ∙ others .1 in
-        (
+        let rest = drop-drop (size e) place file ∙ ap (λ q. drop q file) (sym (exact .0)) ∙ others .1 in (
           ap (λ (l : List (ℕ × Entry)). (place, e) ∷ l) (others .0 ∙ ap (λ q. placed-from q (map (λ p. p .1) read)) (exact .0)),
           sym (take-append-drop (size e) (drop place file)) ∙ ap (λ l. l ++ drop (size e) (drop place file)) (exact .1) ∙ ap (λ l. writing e ++ l) rest,
         )
