@@ -10,14 +10,14 @@ use Rattle.std.specs.declared.option.Option.{Option}
 use Rattle.std.specs.declared.option.Option.the-variants.{Some, None}
 use Rattle.std.specs.declared.result.Result.{Result}
 use Rattle.std.specs.declared.result.Result.the-variants.{Ok, Err}
-use Rattle.std.proofs.shelf.Lists.{drop-at, getD-drop, length-append, take-more}
+use Rattle.std.proofs.shelf.Lists.{drop-all, drop-at, getD-drop, length-append, take-more}
 use Rattle.std.proofs.shelf.Tests.{cond-both, cond-false, eqb-true, ne-eqb, le-ltb, ltb-false}
 use Rattle.faults.specs.declared.file.FileFault.{FileFault}
 use Rattle.faults.specs.declared.file.FileRefusal.{FileRefusal}
 use Rattle.gamefile.specs.Entry.{Entry, opens, sells, buys, ends, closes, bills, pays-out, buys-train, is-done, reopens, view}
 use Rattle.gamefile.specs.Writing.{writing, size}
 use Rattle.gamefile.specs.Reading.{byte, pair, stock-entry, operating-entry, or-else, known, complete, first, from-place, read-at}
-use Rattle.gamefile.specs.Laws.{Bytes, Reads-back, One-writing, Different-writings}
+use Rattle.gamefile.specs.Laws.{Bytes, Nothing-past-end, Reads-back, One-writing, Different-writings, Single-records}
 use Rattle.gamefile.specs.declared.record.Record.{Record}
 use Rattle.gamefile.specs.declared.record.Record.the-variants.{Open, Sell, Buy, End, Close, Bill, Payout, Train, Done, Reopen}
 
@@ -54,6 +54,9 @@ pub first-written : (e : Entry) (after : List ℕ) → first (writing e ++ after
 first-written e after =
     let n = length-append (writing e) after in
     first-from (writing e ++ after) e (omega arith) (written-known e after) (omega arith)
+
+pub nothing-past-end : Nothing-past-end
+nothing-past-end file place h = ap (λ s. from-place place (first s)) (drop-all place file h)
 
 pub reads-back : Reads-back
 reads-back e before after =
@@ -176,3 +179,6 @@ writing-apart d e x y h =
 
 pub different-writings : Different-writings
 different-writings r s x y h = view-apart r s (writing-apart (view r) (view s) x y h)
+
+pub single-records : Single-records
+single-records = record { nothing-past-end = nothing-past-end; reads-back = reads-back; one-writing = one-writing; different-writings = different-writings }

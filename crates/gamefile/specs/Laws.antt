@@ -1,12 +1,13 @@
 -- A record has one writing, and a file of writings reads as those records and no others.
 use mathlib.Core.Path.{_≡_}
 use mathlib.Core.List.{List, _++_, map}
-use Prim.Native.Nat.{ℕ, _+_, _<_}
+use Prim.Native.Nat.{ℕ, _+_, _<_, _≤_}
 use lib.ListN.{length, drop, getD, take}
 use Rattle.std.specs.Joined.{joined}
 use Rattle.std.specs.declared.option.Option.the-variants.{Some, None}
 use Rattle.std.specs.declared.result.Result.the-variants.{Ok, Err}
 use Rattle.faults.specs.declared.file.FileRefusal.{FileRefusal}
+use Rattle.faults.specs.declared.file.FileRefusal.the-variants.{CutBody}
 use Rattle.gamefile.specs.Entry.{Entry, view}
 use Rattle.gamefile.specs.Reading.{first, read-at}
 use Rattle.gamefile.specs.Whole.{reading, placed-from}
@@ -32,6 +33,16 @@ One-writing =
 abbrev pub Different-writings : Type 0
 Different-writings =
     (r s : Record) (after-r after-s : List ℕ) → writing (view r) ++ after-r ≡ writing (view s) ++ after-s → r ≡ s
+
+-- a place at or past the end has no record
+abbrev pub Nothing-past-end : Type 0
+Nothing-past-end = (file : List ℕ) (place : ℕ) → length file ≤ place → read-at file place ≡ Err (record { refusal = CutBody; place = place })
+
+pub record Single-records : Type 0 where
+  pub nothing-past-end : Nothing-past-end
+  pub reads-back : Reads-back
+  pub one-writing : One-writing
+  pub different-writings : Different-writings
 
 pub record Whole-files : Type 0 where
   -- the writings of records, one after the other, read as those records, each at its place

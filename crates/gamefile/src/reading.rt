@@ -2,6 +2,7 @@ ghost use mathlib.Core.Path.{_≡_};
 ghost use Prim.Native.Nat.{_+_, _*_, _<_, _≤_};
 ghost use lib.ListN.{length, getD};
 ghost use Rattle.std.specs.Vec.{made};
+ghost use Rattle.gamefile.specs.Laws.{Single-records};
 ghost use Rattle.gamefile.specs.Reading.{pair, stock-entry, operating-entry, known, first, read-at, seen, seen-one};
 use crate::record::Record;
 use faults::file::FileFault;
@@ -107,6 +108,7 @@ fn first_record(bytes: &[u8]) -> Result<(Record, usize), FileRefusal>
 pub fn read(file: &[u8], place: usize) -> Result<(Record, usize), FileFault>
     ensures value { λ r. ⌜ seen r ≡ read-at (now (file .entry)) place ⌝ }
     ensures within { λ r. ⌜ made r (λ x. (place < x .1) × (x .1 ≤ length (now (file .entry)))) ⌝ }
+    ensures laws { λ _. ⌜ Single-records ⌝ }
 {
     if place >= file.len() {
         return Err(FileFault {

@@ -1,15 +1,14 @@
-use mathlib.Core.Path.{_≡_, sym, ap, _∙_}
+use mathlib.Core.Path.{sym, ap, _∙_}
 use native.Mathlib.Omega.{arith}
-use Prim.Native.Nat.{_+_, _≤_}
-use lib.ListN.{length, length-drop, drop}
-use Rattle.std.proofs.shelf.Lists.{take-rest, drop-all}
+use lib.ListN.{length, length-drop}
+use Rattle.std.proofs.shelf.Lists.{take-rest}
 use Rattle.gamefile.specs.Reading.{first, from-place}
+use Rattle.gamefile.proofs.OneWriting.{nothing-past-end, single-records}
 use Rattle.gamefile.proofs.reading.read.Needs as need
 
 pub returns-then-place-file : need.returns-then-place-file
 returns-then-place-file c =
-    let none = drop-all (c .args .place) (c .args .file .now) (c .if-place-file .taken) in
-    record { value = sym (ap (λ bytes. from-place (c .args .place) (first bytes)) none); within = tt }
+    record { value = sym (nothing-past-end (c .args .file .now) (c .args .place) (c .if-place-file .taken)); within = tt; laws = single-records }
 
 pub returns-in-Ok : need.returns-in-Ok
 returns-in-Ok c =
@@ -17,6 +16,7 @@ returns-in-Ok c =
     record {
       value = ap (from-place (c .args .place)) (c .in-Ok .ensures tt .value ∙ ap first rest);
       within = (omega (arith, c .in-Ok .ensures tt .within .0), omega (arith, c .in-Ok .ensures tt .within .1, ap length rest, length-drop (c .args .place) (c .args .file .now)));
+      laws = single-records;
     }
 
 pub returns-in-Err : need.returns-in-Err
@@ -24,4 +24,5 @@ returns-in-Err c =
     record {
       value = ap (from-place (c .args .place)) (c .in-Err .ensures tt .value ∙ ap first (take-rest (c .args .file .now) (c .args .place)));
       within = tt;
+      laws = single-records;
     }
