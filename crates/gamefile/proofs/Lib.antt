@@ -1,3 +1,0 @@
-pub mod OneWriting
-pub mod Steps
-pub mod WholeFile

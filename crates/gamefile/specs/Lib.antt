@@ -1,5 +1,0 @@
-pub mod Entry
-pub mod Writing
-pub mod Reading
-pub mod Whole
-pub mod Laws

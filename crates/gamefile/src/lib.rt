@@ -1,4 +1,3 @@
-// The records of a game file: reading one at a place, and writing one into a lent buffer.
+// Reading the record at a place of a game file, and writing a record into a lent buffer.
 pub mod reading;
-pub mod record;
 pub mod writing;

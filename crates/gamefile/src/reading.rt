@@ -2,9 +2,9 @@ ghost use mathlib.Core.Path.{_≡_};
 ghost use Prim.Native.Nat.{_+_, _*_, _<_, _≤_};
 ghost use lib.ListN.{length, getD};
 ghost use Rattle.std.specs.Vec.{made};
-ghost use Rattle.gamefile.specs.Laws.{Single-records};
-ghost use Rattle.gamefile.specs.Reading.{pair, stock-entry, operating-entry, known, first, read-at, seen, seen-one};
-use crate::record::Record;
+ghost use Rattle.entries.specs.Laws.{Single-records};
+ghost use Rattle.entries.specs.Reading.{pair, stock-entry, operating-entry, known, first, read-at, seen, seen-one};
+use entries::record::Record;
 use faults::file::FileFault;
 use faults::file::FileRefusal;
 

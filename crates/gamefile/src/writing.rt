@@ -1,8 +1,8 @@
 ghost use mathlib.Core.Path.{_≡_};
 ghost use Prim.Native.Nat.{_/_, _%_};
-ghost use Rattle.gamefile.specs.Entry.{view};
-ghost use Rattle.gamefile.specs.Writing.{put, written};
-use crate::record::Record;
+ghost use Rattle.entries.specs.Entry.{view};
+ghost use Rattle.entries.specs.Writing.{put, written};
+use entries::record::Record;
 use faults::file::FileFault;
 use faults::file::FileRefusal;
 

@@ -6,10 +6,10 @@ use lib.ListN.{length}
 use Rattle.std.specs.Joined.{joined}
 use Rattle.std.specs.declared.result.Result.the-variants.{Ok, Err}
 use Rattle.faults.specs.declared.file.FileFault.{FileFault}
-use Rattle.gamefile.specs.Entry.{Entry}
-use Rattle.gamefile.specs.Reading.{read-at}
-use Rattle.gamefile.specs.Whole.{reading-by}
-use Rattle.gamefile.proofs.Steps.{at-end, stops, goes-on}
+use Rattle.entries.specs.Entry.{Entry}
+use Rattle.entries.specs.Reading.{read-at}
+use Rattle.entries.specs.Whole.{reading-by}
+use Rattle.entries.proofs.Steps.{at-end, stops, goes-on}
 use Rattle.listing.specs.Lines.{line, refused-line}
 use Rattle.listing.specs.Listing.{lines, last-line}
 

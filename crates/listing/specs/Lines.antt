@@ -5,7 +5,7 @@ use lib.Chars.{codes}
 use Rattle.std.specs.Written.{decimal}
 use Rattle.faults.specs.Numbers.{file-number}
 use Rattle.faults.specs.declared.file.FileFault.{FileFault}
-use Rattle.gamefile.specs.Entry.{Entry, opens, sells, buys, ends, closes, bills, pays-out, buys-train, is-done, reopens}
+use Rattle.entries.specs.Entry.{Entry, opens, sells, buys, ends, closes, bills, pays-out, buys-train, is-done, reopens}
 
 -- a record's name, and its fields in order
 abbrev pub words : Entry → List ℕ × List ℕ

@@ -9,7 +9,7 @@ use Rattle.std.specs.declared.option.Option.{Option}
 use Rattle.std.specs.declared.option.Option.the-variants.{Some, None}
 use Rattle.faults.specs.declared.file.FileFault.{FileFault}
 use Rattle.faults.specs.declared.file.FileRefusal.the-variants.{FileTooLong}
-use Rattle.gamefile.specs.Whole.{Outcome, reading}
+use Rattle.entries.specs.Whole.{Outcome, reading}
 use Rattle.listing.specs.Lines.{line, refused-line}
 
 abbrev pub last-line : Option FileFault → List ℕ

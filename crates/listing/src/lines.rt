@@ -2,10 +2,10 @@ ghost use mathlib.Core.Path.{_≡_};
 ghost use mathlib.Core.List.{_++_};
 ghost use Rattle.std.specs.Of.String.{string-bytes};
 ghost use Rattle.std.specs.Vec.{made};
-ghost use Rattle.gamefile.specs.Entry.{view};
+ghost use Rattle.entries.specs.Entry.{view};
 ghost use Rattle.listing.specs.Lines.{line, refused-line};
+use entries::record::Record;
 use faults::file::FileFault;
-use gamefile::record::Record;
 use std::fmt;
 
 pub(crate) fn push_record(text: &mut String, place: usize, record: Record) -> fmt::Result

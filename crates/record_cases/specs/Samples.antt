@@ -8,9 +8,9 @@ use Rattle.hands.specs.declared.fault.CarryRefusal.the-variants.{CannotGive}
 use Rattle.faults.specs.Layers.{carried-up}
 use Rattle.faults.specs.declared.file.FileRefusal.the-variants.{BufferTooShort}
 use Rattle.faults.specs.declared.table.CallName.the-variants.{Buy}
-use Rattle.gamefile.specs.Entry.{bills, pays-out}
-use Rattle.gamefile.specs.Reading.{read-at}
-use Rattle.gamefile.specs.Writing.{writing, written}
+use Rattle.entries.specs.Entry.{bills, pays-out}
+use Rattle.entries.specs.Reading.{read-at}
+use Rattle.entries.specs.Writing.{writing, written}
 use Rattle.listing.specs.Lines.{refused-line}
 use Rattle.listing.specs.Listing.{listing-of}
 

@@ -1,3 +1,6 @@
+use entries::record::Record;
+use entries::record::RecordDebug;
+use entries::record::RecordPartialEq;
 use faults::file::FileFault;
 use faults::file::FileFaultDebug;
 use faults::file::FileFaultPartialEq;
@@ -11,9 +14,6 @@ use faults::table::TableRefusal;
 use faults::table::TableRefusalFromCarry;
 use faults::table::in_call;
 use gamefile::reading::read;
-use gamefile::record::Record;
-use gamefile::record::RecordDebug;
-use gamefile::record::RecordPartialEq;
 use gamefile::writing::write;
 use hands::carrying::carry;
 use hands::fault::CarryFault;

@@ -2,8 +2,8 @@ use mathlib.Core.Path.{sym, ap, _∙_}
 use native.Mathlib.Omega.{arith}
 use lib.ListN.{length, length-drop}
 use Rattle.std.proofs.shelf.Lists.{take-rest}
-use Rattle.gamefile.specs.Reading.{first, from-place}
-use Rattle.gamefile.proofs.OneWriting.{nothing-past-end, single-records}
+use Rattle.entries.specs.Reading.{first, from-place}
+use Rattle.entries.proofs.OneWriting.{nothing-past-end, single-records}
 use Rattle.gamefile.proofs.reading.read.Needs as need
 
 pub returns-then-place-file : need.returns-then-place-file

@@ -1,5 +1,5 @@
 use borrow.Author.Needs.{needs}
-use Rattle.gamefile.proofs.WholeFile.{whole-files}
+use Rattle.entries.proofs.WholeFile.{whole-files}
 use Rattle.listing.proofs.whole.listing.Needs as need
 
 pub returns-in-Ok : need.returns-in-Ok

@@ -4,8 +4,8 @@ use native.Mathlib.Omega.{arith}
 use lib.ListN.{length}
 use Rattle.std.specs.Of.String.{string-bytes}
 use Rattle.std.proofs.shelf.Results.{made-weaker}
-use Rattle.gamefile.specs.Entry.{view}
-use Rattle.gamefile.specs.Whole.{reading}
+use Rattle.entries.specs.Entry.{view}
+use Rattle.entries.specs.Whole.{reading}
 use Rattle.listing.specs.Listing.{lines}
 use Rattle.listing.proofs.LinesLeft.{none-left, fault-left, record-left}
 use Rattle.listing.proofs.whole.push_file.Needs as need

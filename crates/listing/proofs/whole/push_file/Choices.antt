@@ -3,7 +3,7 @@ use mathlib.Core.List.{_++_}
 use Prim.Native.Nat.{ℕ, _+_, _-_, _≤_}
 use lib.ListN.{length}
 use Rattle.std.specs.Of.String.{string-bytes}
-use Rattle.gamefile.specs.Whole.{reading, reading-by}
+use Rattle.entries.specs.Whole.{reading, reading-by}
 use Rattle.listing.specs.Listing.{lines}
 use Rattle.listing.proofs.whole.push_file.Given as given
 

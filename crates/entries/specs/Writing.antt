@@ -8,7 +8,7 @@ use Rattle.std.specs.declared.result.Result.{Result}
 use Rattle.std.specs.declared.result.Result.the-variants.{Ok, Err}
 use Rattle.faults.specs.declared.file.FileFault.{FileFault}
 use Rattle.faults.specs.declared.file.FileRefusal.the-variants.{BufferTooShort}
-use Rattle.gamefile.specs.Entry.{Entry, opens, sells, buys, ends, closes, bills, pays-out, buys-train, is-done, reopens}
+use Rattle.entries.specs.Entry.{Entry, opens, sells, buys, ends, closes, bills, pays-out, buys-train, is-done, reopens}
 
 -- a field of two bytes: the high byte first
 abbrev pub two-bytes : ℕ → List ℕ

@@ -14,12 +14,12 @@ use Rattle.std.proofs.shelf.Lists.{drop-all, drop-at, getD-drop, length-append,
 use Rattle.std.proofs.shelf.Tests.{cond-both, cond-false, eqb-true, ne-eqb, le-ltb, ltb-false}
 use Rattle.faults.specs.declared.file.FileFault.{FileFault}
 use Rattle.faults.specs.declared.file.FileRefusal.{FileRefusal}
-use Rattle.gamefile.specs.Entry.{Entry, opens, sells, buys, ends, closes, bills, pays-out, buys-train, is-done, reopens, view}
-use Rattle.gamefile.specs.Writing.{writing, size}
-use Rattle.gamefile.specs.Reading.{byte, pair, stock-entry, operating-entry, or-else, known, complete, first, from-place, read-at}
-use Rattle.gamefile.specs.Laws.{Bytes, Nothing-past-end, Reads-back, One-writing, Different-writings, Single-records}
-use Rattle.gamefile.specs.declared.record.Record.{Record}
-use Rattle.gamefile.specs.declared.record.Record.the-variants.{Open, Sell, Buy, End, Close, Bill, Payout, Train, Done, Reopen}
+use Rattle.entries.specs.Entry.{Entry, opens, sells, buys, ends, closes, bills, pays-out, buys-train, is-done, reopens, view}
+use Rattle.entries.specs.Writing.{writing, size}
+use Rattle.entries.specs.Reading.{byte, pair, stock-entry, operating-entry, or-else, known, complete, first, from-place, read-at}
+use Rattle.entries.specs.Laws.{Bytes, Nothing-past-end, Reads-back, One-writing, Different-writings, Single-records}
+use Rattle.entries.specs.declared.record.Record.{Record}
+use Rattle.entries.specs.declared.record.Record.the-variants.{Open, Sell, Buy, End, Close, Bill, Payout, Train, Done, Reopen}
 
 whole : (n : ℕ) → n / 256 * 256 + n % 256 ≡ n
 whole n = omega arith

@@ -1,7 +1,7 @@
 // What a record says. The fields have the widths that they have in a file.
 ghost use mathlib.Core.Path.{_≡_};
-ghost use Rattle.gamefile.specs.Entry.{view};
-ghost use Rattle.gamefile.specs.Writing.{size};
+ghost use Rattle.entries.specs.Entry.{view};
+ghost use Rattle.entries.specs.Writing.{size};
 
 #[derive(Clone, Copy, PartialEq, Eq, Debug)]
 pub enum Record {

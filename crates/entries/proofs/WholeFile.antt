@@ -15,13 +15,13 @@ use Rattle.std.proofs.shelf.Lists.{drop-all, drop-at, drop-drop, take-append-dr
 use Rattle.std.proofs.shelf.Tests.{ltb-false}
 use Rattle.faults.specs.declared.file.FileFault.{FileFault}
 use Rattle.faults.specs.declared.file.FileRefusal.{FileRefusal}
-use Rattle.gamefile.specs.Entry.{Entry}
-use Rattle.gamefile.specs.Writing.{writing, size}
-use Rattle.gamefile.specs.Reading.{first, from-place, read-at}
-use Rattle.gamefile.specs.Whole.{Outcome, onward, reading-by, reading, placed-from}
-use Rattle.gamefile.specs.Laws.{Bytes, Whole-files}
-use Rattle.gamefile.proofs.OneWriting.{first-written, one-writing}
-use Rattle.gamefile.proofs.Steps.{at-end, stops, goes-on}
+use Rattle.entries.specs.Entry.{Entry}
+use Rattle.entries.specs.Writing.{writing, size}
+use Rattle.entries.specs.Reading.{first, from-place, read-at}
+use Rattle.entries.specs.Whole.{Outcome, onward, reading-by, reading, placed-from}
+use Rattle.entries.specs.Laws.{Bytes, Whole-files}
+use Rattle.entries.proofs.OneWriting.{first-written, one-writing}
+use Rattle.entries.proofs.Steps.{at-end, stops, goes-on}
 
 -- writings in a file are read as their entries, and then comes what the place after them gives
 pub reads-writings :

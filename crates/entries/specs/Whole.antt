@@ -9,9 +9,9 @@ use Rattle.std.specs.declared.option.Option.the-variants.{Some, None}
 use Rattle.std.specs.declared.result.Result.{Result}
 use Rattle.std.specs.declared.result.Result.the-variants.{Ok, Err}
 use Rattle.faults.specs.declared.file.FileFault.{FileFault}
-use Rattle.gamefile.specs.Entry.{Entry}
-use Rattle.gamefile.specs.Reading.{read-at}
-use Rattle.gamefile.specs.Writing.{size}
+use Rattle.entries.specs.Entry.{Entry}
+use Rattle.entries.specs.Reading.{read-at}
+use Rattle.entries.specs.Writing.{size}
 
 -- the records with their places, and the fault that ended it, if any
 abbrev pub Outcome : Type 0

@@ -8,11 +8,11 @@ use Rattle.std.specs.declared.option.Option.the-variants.{Some, None}
 use Rattle.std.specs.declared.result.Result.the-variants.{Ok, Err}
 use Rattle.faults.specs.declared.file.FileRefusal.{FileRefusal}
 use Rattle.faults.specs.declared.file.FileRefusal.the-variants.{CutBody}
-use Rattle.gamefile.specs.Entry.{Entry, view}
-use Rattle.gamefile.specs.Reading.{first, read-at}
-use Rattle.gamefile.specs.Whole.{reading, placed-from}
-use Rattle.gamefile.specs.Writing.{writing, size}
-use Rattle.gamefile.specs.declared.record.Record.{Record}
+use Rattle.entries.specs.Entry.{Entry, view}
+use Rattle.entries.specs.Reading.{first, read-at}
+use Rattle.entries.specs.Whole.{reading, placed-from}
+use Rattle.entries.specs.Writing.{writing, size}
+use Rattle.entries.specs.declared.record.Record.{Record}
 
 abbrev pub Bytes : List ℕ → Type 0
 Bytes file = (i : ℕ) → getD file i 0 < 256

@@ -8,9 +8,9 @@ use Rattle.std.specs.declared.option.Option.the-variants.{Some, None}
 use Rattle.std.specs.declared.result.Result.the-variants.{Ok, Err}
 use Rattle.std.proofs.shelf.Tests.{lt-ltb, le-ltb}
 use Rattle.faults.specs.declared.file.FileFault.{FileFault}
-use Rattle.gamefile.specs.Entry.{Entry}
-use Rattle.gamefile.specs.Reading.{read-at}
-use Rattle.gamefile.specs.Whole.{onward, reading-by}
+use Rattle.entries.specs.Entry.{Entry}
+use Rattle.entries.specs.Reading.{read-at}
+use Rattle.entries.specs.Whole.{onward, reading-by}
 
 pub at-end : (n : ℕ) (file : List ℕ) (place : ℕ) → length file ≤ place → reading-by n file place ≡ ([], None)
 at-end zero file place h = refl

@@ -11,9 +11,9 @@ use Rattle.std.specs.declared.result.Result.the-variants.{Ok, Err}
 use Rattle.faults.specs.declared.file.FileFault.{FileFault}
 use Rattle.faults.specs.declared.file.FileRefusal.{FileRefusal}
 use Rattle.faults.specs.declared.file.FileRefusal.the-variants.{UnknownKind, CutBody}
-use Rattle.gamefile.specs.Entry.{Entry, opens, sells, buys, ends, closes, bills, pays-out, buys-train, is-done, reopens, view}
-use Rattle.gamefile.specs.Writing.{size}
-use Rattle.gamefile.specs.declared.record.Record.{Record}
+use Rattle.entries.specs.Entry.{Entry, opens, sells, buys, ends, closes, bills, pays-out, buys-train, is-done, reopens, view}
+use Rattle.entries.specs.Writing.{size}
+use Rattle.entries.specs.declared.record.Record.{Record}
 
 abbrev pub or-else : Option Entry → Option Entry → Option Entry
 or-else (Some e) other = Some e
