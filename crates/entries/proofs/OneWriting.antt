@@ -17,7 +17,7 @@ use Rattle.faults.specs.declared.file.FileRefusal.{FileRefusal}
 use Rattle.entries.specs.Entry.{Entry, opens, sells, buys, ends, closes, bills, pays-out, buys-train, is-done, reopens, view}
 use Rattle.entries.specs.Writing.{writing, size}
 use Rattle.entries.specs.Reading.{byte, pair, stock-entry, operating-entry, or-else, known, complete, first, from-place, read-at}
-use Rattle.entries.specs.Laws.{Bytes, Nothing-past-end, Reads-back, One-writing, Different-writings, Single-records}
+use Rattle.entries.specs.Laws.{Bytes, Nothing-past-end, Reads-back, One-writing, Different-writings, View-tells-all, Single-records}
 use Rattle.entries.specs.declared.record.Record.{Record}
 use Rattle.entries.specs.declared.record.Record.the-variants.{Open, Sell, Buy, End, Close, Bill, Payout, Train, Done, Reopen}
 
@@ -167,18 +167,21 @@ unview-view (Train company kind) = refl
 unview-view (Done company) = refl
 unview-view Reopen = refl
 
-pub view-apart : (r s : Record) → view r ≡ view s → r ≡ s
-view-apart r s h = sym (unview-view r) ∙ ap unview h ∙ unview-view s
+pub view-tells-all : View-tells-all
+view-tells-all r s h = sym (unview-view r) ∙ ap unview h ∙ unview-view s
 
--- what two writings with more bytes after them begin with is the same entry
-pub writing-apart : (d e : Entry) (x y : List ℕ) → writing d ++ x ≡ writing e ++ y → d ≡ e
-writing-apart d e x y h =
+pub different-writings : Different-writings
+different-writings d e x y h =
     let f : Ok (d, size d) ≡ Ok (e, size e) = sym (first-written d x) ∙ ap first h ∙ first-written e y in
     let g : (d, size d) ≡ (e, size e) = cc in
     ap (λ (p : Entry × ℕ). p .0) g
 
-pub different-writings : Different-writings
-different-writings r s x y h = view-apart r s (writing-apart (view r) (view s) x y h)
-
 pub single-records : Single-records
-single-records = record { nothing-past-end = nothing-past-end; reads-back = reads-back; one-writing = one-writing; different-writings = different-writings }
+single-records =
+    record {
+      nothing-past-end = nothing-past-end;
+      reads-back = reads-back;
+      one-writing = one-writing;
+      different-writings = different-writings;
+      view-tells-all = view-tells-all;
+    }

@@ -31,8 +31,11 @@ One-writing =
 
 -- records of different content have different writings, even if more bytes follow them
 abbrev pub Different-writings : Type 0
-Different-writings =
-    (r s : Record) (after-r after-s : List ℕ) → writing (view r) ++ after-r ≡ writing (view s) ++ after-s → r ≡ s
+Different-writings = (d e : Entry) (after-d after-e : List ℕ) → writing d ++ after-d ≡ writing e ++ after-e → d ≡ e
+
+-- and the entry of a record tells all of it
+abbrev pub View-tells-all : Type 0
+View-tells-all = (r s : Record) → view r ≡ view s → r ≡ s
 
 -- a place at or past the end has no record
 abbrev pub Nothing-past-end : Type 0
@@ -43,6 +46,7 @@ pub record Single-records : Type 0 where
   pub reads-back : Reads-back
   pub one-writing : One-writing
   pub different-writings : Different-writings
+  pub view-tells-all : View-tells-all
 
 pub record Whole-files : Type 0 where
   -- the writings of records, one after the other, read as those records, each at its place
