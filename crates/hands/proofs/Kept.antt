@@ -5,18 +5,17 @@ use mathlib.Core.List.{List, [], _∷_}
 use mathlib.Core.Logic.{_≢_}
 use Prim.Native.Nat.{ℕ, zero, suc}
 use native.Mathlib.Omega.{arith}
-use lib.Dec.{eqb}
 use lib.IntN.{ℤ, pos, _+ℤ_, _-ℤ_}
 use lib.ListN.{set}
 use Rattle.std.proofs.shelf.Signed.{ints}
-use Rattle.std.proofs.shelf.Tests.{eqb-false, cond-both}
 use Rattle.std.specs.Finite.{nth}
 use Rattle.std.specs.declared.option.Option.{Option}
 use Rattle.std.specs.declared.option.Option.the-variants.{Some, None}
 use Rattle.hands.specs.Kind.{Kind}
-use Rattle.hands.specs.Carry.{Outcome, carried, between}
+use Rattle.hands.specs.Carry.{carried}
 use Rattle.hands.specs.Tallies.{Tallies, Tally-laws}
 use Rattle.hands.specs.Totals.{total, Totals-kept, Elsewhere-same}
+use Rattle.hands.proofs.Ways.{by-ways}
 
 pub nth-set-other : {H : Type 0} (xs : List H) (i j : ℕ) (y : H) → i ≢ j → nth (set xs i y) j ≡ nth xs j
 nth-set-other [] i j y ne = refl
@@ -32,20 +31,9 @@ total-set t tag (h ∷ hs) (suc i) x y e = let r = total-set t tag hs i x y e in
 
 module _ {H L : Type 0} (k : Kind H L) (row : List H) (i j : ℕ) (l : L) where
   -- what holds of the row as it was, and of the row with the load moved, holds after a carry
-  by-ways : (P : List H → Type 0) → P row → ((a b : H) → nth row i ≡ Some a → nth row j ≡ Some b → i ≢ j → k .can-give a l ≡ true → k .can-take b l ≡ true → P (set (set row i (k .given a l)) j (k .taken b l)))
-      → (a b : Option H) (same : Bool) → nth row i ≡ a → nth row j ≡ b → eqb i j ≡ same → P (between k row i j l a b same .1)
-  by-ways P kept moved None b same p q e = kept
-  by-ways P kept moved (Some a) None same p q e = kept
-  by-ways P kept moved (Some a) (Some b) true p q e = kept
-  by-ways P kept moved (Some a) (Some b) false p q e =
-      let Q : Outcome H → Type 0 = λ o. P (o .1) in
-      cond-both (k .can-give a l) _ _ Q
-      (λ g. cond-both (k .can-take b l) _ _ Q (λ t. moved a b p q (eqb-false i j e) g t) (λ _. kept))
-      (λ _. kept)
-
-  pub after-carry : (P : List H → Type 0) → P row → ((a b : H) → nth row i ≡ Some a → nth row j ≡ Some b → i ≢ j → k .can-give a l ≡ true → k .can-take b l ≡ true → P (set (set row i (k .given a l)) j (k .taken b l)))
+  after-carry : (P : List H → Type 0) → P row → ((a b : H) → nth row i ≡ Some a → nth row j ≡ Some b → i ≢ j → k .can-give a l ≡ true → k .can-take b l ≡ true → P (set (set row i (k .given a l)) j (k .taken b l)))
       → P (carried k row i j l .1)
-  after-carry P kept moved = by-ways P kept moved (nth row i) (nth row j) (eqb i j) refl refl refl
+  after-carry P kept moved = by-ways k row i j l (λ o. P (o .1)) (λ _. kept) moved
 
   pub elsewhere-same : Elsewhere-same i j row (carried k row i j l .1)
   elsewhere-same p ni nj =

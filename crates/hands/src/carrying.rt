@@ -4,14 +4,14 @@ use crate::fault::CarryFault;
 use crate::fault::CarryRefusal;
 use crate::hand::Hand;
 
-// Moves a load from one hand of a row to another, or refuses and leaves the row as it was.
-pub fn carry<H: Hand>(
-    row: &mut [H],
+// What a carry would answer, with nothing moved.
+pub fn can_carry<H: Hand>(
+    row: &[H],
     giver: usize,
     receiver: usize,
     load: H::Load,
 ) -> Result<(), CarryFault>
-    ensures { λ r. ⌜ (r, now (row .exit)) ≡ carried kind (now (row .entry)) giver receiver load ⌝ }
+    ensures { λ r. ⌜ r ≡ carried kind (now (row .entry)) giver receiver load .0 ⌝ }
 {
     if giver >= row.len() || receiver >= row.len() {
         return Err(CarryFault {
@@ -41,6 +41,19 @@ pub fn carry<H: Hand>(
             receiver,
         });
     }
+    Ok(())
+}
+
+// Moves a load from one hand of a row to another, or refuses and leaves the row as it was.
+pub fn carry<H: Hand>(
+    row: &mut [H],
+    giver: usize,
+    receiver: usize,
+    load: H::Load,
+) -> Result<(), CarryFault>
+    ensures { λ r. ⌜ (r, now (row .exit)) ≡ carried kind (now (row .entry)) giver receiver load ⌝ }
+{
+    can_carry(row, giver, receiver, load)?;
     row[giver].give(load);
     row[receiver].take(load);
     Ok(())

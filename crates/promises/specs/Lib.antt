@@ -1,0 +1,3 @@
+pub mod Conservation
+pub mod Accounts
+pub mod Lives
