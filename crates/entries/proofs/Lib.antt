@@ -1,0 +1,3 @@
+pub mod OneWriting
+pub mod Steps
+pub mod WholeFile

@@ -1,0 +1,2 @@
+// What the records of a game file are, and what their bytes mean.
+pub mod record;
