@@ -32,7 +32,7 @@ pub carriable-append : (s : Books) (xs ys : List Crossing) → Carriable s xs �
 carriable-append s [] ys p q = q
 carriable-append s (x ∷ xs) ys p q = (p .0, carriable-append (crossed s x) xs ys (p .1) q)
 
-only-bit : (n : ℕ) → bit 0 n ≡ 1 → bitAnd n 1 ≡ 1
+pub only-bit : (n : ℕ) → bit 0 n ≡ 1 → bitAnd n 1 ≡ 1
 only-bit n e = and-mask n 1 ∙ ap (λ z. z % 2) (sym (div-one n)) ∙ e
 
 module _ (b : Book) (few : b .bank ≤ 50000) where

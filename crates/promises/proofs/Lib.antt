@@ -27,3 +27,11 @@ pub mod EqualHands
 pub mod Rows
 pub mod Opened
 pub mod Whole
+pub mod Tenths
+pub mod Led
+pub mod Exchanges
+pub mod LedSales
+pub mod LedPurchases
+pub mod Limits
+pub mod TurnSeats
+pub mod MovesOn

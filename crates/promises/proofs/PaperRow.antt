@@ -21,16 +21,16 @@ use Rattle.kinds.specs.declared.papers.Papers.{Papers}
 use Rattle.kinds.specs.declared.certificate_set.CertificateSet.{CertificateSet}
 use Rattle.kinds.proofs.Bits.{bit-below, bit-past, bit-zero, none-there, falls}
 
-not-negative : (row : List Papers) (tag : ℕ) → pos 0 ≤ℤ total papers-tallies row tag
+pub not-negative : (row : List Papers) (tag : ℕ) → pos 0 ≤ℤ total papers-tallies row tag
 not-negative [] tag = omega (arith, ints)
 not-negative (h ∷ hs) tag = let r = not-negative hs tag in omega (arith, ints)
 
-part : (row : List Papers) (p tag : ℕ) → pos (bit tag (getD row p no-papers .certificates)) ≤ℤ total papers-tallies row tag
+pub part : (row : List Papers) (p tag : ℕ) → pos (bit tag (getD row p no-papers .certificates)) ≤ℤ total papers-tallies row tag
 part [] p tag = let z = bit-zero tag in omega (arith, ints, z)
 part (h ∷ hs) zero tag = let r = not-negative hs tag in omega (arith, ints)
 part (h ∷ hs) (suc p) tag = let r = part hs p tag in omega (arith, ints)
 
-two-parts : (row : List Papers) (i j tag : ℕ) → i ≢ j → pos (bit tag (getD row i no-papers .certificates) + bit tag (getD row j no-papers .certificates)) ≤ℤ total papers-tallies row tag
+pub two-parts : (row : List Papers) (i j tag : ℕ) → i ≢ j → pos (bit tag (getD row i no-papers .certificates) + bit tag (getD row j no-papers .certificates)) ≤ℤ total papers-tallies row tag
 two-parts [] i j tag ne = let z = bit-zero tag in omega (arith, ints, z)
 two-parts (h ∷ hs) zero zero tag ne = absurd (ne refl)
 two-parts (h ∷ hs) zero (suc j) tag ne = let r = part hs j tag in omega (arith, ints)

@@ -43,7 +43,7 @@ same-kind-is (Some lowest) kind e = ap Some (eqb-true lowest kind e)
 below : (a b : ℤ) → ltZ a b ≡ true → (a +ℤ pos 1) ≤ℤ b
 below a b e = grind (arith, ints)
 
-lacks : (m : ℤ) (price : ℕ) → ltZ m (pos price) ≡ true → (m +ℤ pos (lacking (pos price -ℤ m))) ≡ pos price
+pub lacks : (m : ℤ) (price : ℕ) → ltZ m (pos price) ≡ true → (m +ℤ pos (lacking (pos price -ℤ m))) ≡ pos price
 lacks m price e = filled (pos price -ℤ m) refl (below m (pos price) e)
   where
     filled : (z : ℤ) → pos price -ℤ m ≡ z → (m +ℤ pos 1) ≤ℤ pos price → (m +ℤ pos (lacking z)) ≡ pos price

@@ -2,3 +2,4 @@ pub mod Conservation
 pub mod Accounts
 pub mod Lives
 pub mod Promises
+pub mod NeverSticks

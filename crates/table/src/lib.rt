@@ -1,0 +1,14 @@
+// The calls of a table.
+mod calls;
+mod cards;
+mod holdings;
+mod judging;
+mod life;
+mod moving;
+mod opening;
+mod operating;
+mod payout;
+mod purchase;
+mod stock;
+mod table;
+mod train;
