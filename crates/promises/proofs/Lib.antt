@@ -35,3 +35,4 @@ pub mod LedPurchases
 pub mod Limits
 pub mod TurnSeats
 pub mod MovesOn
+pub mod Directed
