@@ -36,3 +36,5 @@ pub mod Limits
 pub mod TurnSeats
 pub mod MovesOn
 pub mod Directed
+pub mod LeftParts
+pub mod Left
