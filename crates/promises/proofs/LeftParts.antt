@@ -54,12 +54,6 @@ less-count : (a c n : ℕ) → pos c ≡ pos a -ℤ pos n → c + n ≡ a
 less-count a c n e = omega (arith, ints)
 
 module _ (b : Book) (law : Lawful b) (s : Books) (ok : Standing b s) (c : Call) (e : answer b s c ≡ Ok tt) where
-  xs : List Crossing
-  xs = crossings-of b s c
-
-  t : Books
-  t = after b s c
-
   pub accounts : (h : HandOf) → Of-a-table h → (tag : ℕ) → tally-of (after b s c) h tag ≡ tally-of s h tag +ℤ pos (receipts (crossings-of b s c) h tag) -ℤ pos (gifts (crossings-of b s c) h tag)
   accounts h of tag =
       ap (λ a. tally-of (if-granted a (granted-after b s c) s) h tag) e

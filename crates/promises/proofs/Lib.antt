@@ -37,4 +37,5 @@ pub mod TurnSeats
 pub mod MovesOn
 pub mod Directed
 pub mod LeftParts
+pub mod LeftPayouts
 pub mod Left

@@ -109,6 +109,7 @@ pub record Leaves (b : Book) (s : Books) : Type 0 where
   pub done : (card company : ℕ) → answer b s (Done card company) ≡ Ok tt → Nothing-moves s (after b s (Done card company))
   pub reopen : (card : ℕ) → answer b s (Reopen card) ≡ Ok tt → Nothing-moves s (after b s (Reopen card))
   pub bill : (card company amount : ℕ) → answer b s (Bill card company amount) ≡ Ok tt → Bill-leaves s (after b s (Bill card company amount)) company amount
+  pub payout : (card company mode revenue : ℕ) → answer b s (Payout card company mode revenue) ≡ Ok tt → (split : Split) → b .split mode revenue ≡ Some split → Payout-leaves s (after b s (Payout card company mode revenue)) company split
 
 abbrev pub Calls-leave : Type 0
 Calls-leave = (b : Book) → Lawful b → (players cash : ℕ) → b .opening players ≡ Some cash → (life : List Call) → Leaves b (lived b (opened b players cash) life)
