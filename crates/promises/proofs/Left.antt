@@ -12,6 +12,7 @@ use Rattle.promises.specs.CallsLeave.{Leaves}
 use Rattle.promises.specs.Lives.{lived}
 use Rattle.promises.proofs.LeftParts.{end-leaves, close-leaves, done-leaves, reopen-leaves, bill-leaves}
 use Rattle.promises.proofs.LeftPayouts.{payout-leaves}
+use Rattle.promises.proofs.LeftTrains.{train-alone-leaves, train-helped-leaves}
 use Rattle.promises.proofs.Opened.{opening-standing}
 use Rattle.promises.proofs.Standing.{Standing}
 use Rattle.promises.proofs.Whole.{life-stands}
@@ -25,6 +26,8 @@ leaves b law s ok =
       reopen = reopen-leaves b law s ok;
       bill = bill-leaves b law s ok;
       payout = payout-leaves b law s ok;
+      train-alone = train-alone-leaves b law s ok;
+      train-helped = train-helped-leaves b law s ok;
     }
 
 pub calls-leave : (b : Book) → Lawful b → (players cash : ℕ) → b .opening players ≡ Some cash → (life : List Call) → Leaves b (lived b (opened b players cash) life)

@@ -44,13 +44,13 @@ less-then a c r g n e p q = omega (arith, ints)
 both-then : (a c : ℤ) (r g m n : ℕ) → c ≡ a +ℤ pos r -ℤ pos g → r ≡ m → g ≡ n → c ≡ a +ℤ pos m -ℤ pos n
 both-then a c r g m n e p q = omega (arith, ints)
 
-same-count : (a c : ℕ) → pos c ≡ pos a → c ≡ a
+pub same-count : (a c : ℕ) → pos c ≡ pos a → c ≡ a
 same-count a c e = omega (arith, ints)
 
-more-count : (a c n : ℕ) → pos c ≡ pos a +ℤ pos n → c ≡ a + n
+pub more-count : (a c n : ℕ) → pos c ≡ pos a +ℤ pos n → c ≡ a + n
 more-count a c n e = omega (arith, ints)
 
-less-count : (a c n : ℕ) → pos c ≡ pos a -ℤ pos n → c + n ≡ a
+pub less-count : (a c n : ℕ) → pos c ≡ pos a -ℤ pos n → c + n ≡ a
 less-count a c n e = omega (arith, ints)
 
 module _ (b : Book) (law : Lawful b) (s : Books) (ok : Standing b s) (c : Call) (e : answer b s c ≡ Ok tt) where

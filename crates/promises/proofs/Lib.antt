@@ -38,4 +38,5 @@ pub mod MovesOn
 pub mod Directed
 pub mod LeftParts
 pub mod LeftPayouts
+pub mod LeftTrains
 pub mod Left

@@ -110,6 +110,9 @@ pub record Leaves (b : Book) (s : Books) : Type 0 where
   pub reopen : (card : ℕ) → answer b s (Reopen card) ≡ Ok tt → Nothing-moves s (after b s (Reopen card))
   pub bill : (card company amount : ℕ) → answer b s (Bill card company amount) ≡ Ok tt → Bill-leaves s (after b s (Bill card company amount)) company amount
   pub payout : (card company mode revenue : ℕ) → answer b s (Payout card company mode revenue) ≡ Ok tt → (split : Split) → b .split mode revenue ≡ Some split → Payout-leaves s (after b s (Payout card company mode revenue)) company split
+  pub train-alone : (card company kind : ℕ) → answer b s (Train card company kind) ≡ Ok tt → needs-help s company (b .train-price kind) ≡ false → Train-alone-leaves s (after b s (Train card company kind)) company kind (b .train-price kind)
+  pub train-helped : (card company kind : ℕ) → answer b s (Train card company kind) ≡ Ok tt → needs-help s company (b .train-price kind) ≡ true → (seat : ℕ) → director s company ≡ Some seat
+      → Train-helped-leaves s (after b s (Train card company kind)) company kind (b .train-price kind) seat
 
 abbrev pub Calls-leave : Type 0
 Calls-leave = (b : Book) → Lawful b → (players cash : ℕ) → b .opening players ≡ Some cash → (life : List Call) → Leaves b (lived b (opened b players cash) life)
