@@ -39,4 +39,5 @@ pub mod Directed
 pub mod LeftParts
 pub mod LeftPayouts
 pub mod LeftTrains
+pub mod LeftSales
 pub mod Left
