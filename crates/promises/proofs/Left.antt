@@ -12,6 +12,7 @@ use Rattle.promises.specs.CallsLeave.{Leaves}
 use Rattle.promises.specs.Lives.{lived}
 use Rattle.promises.proofs.LeftParts.{end-leaves, close-leaves, done-leaves, reopen-leaves, bill-leaves}
 use Rattle.promises.proofs.LeftPayouts.{payout-leaves}
+use Rattle.promises.proofs.LeftPurchases.{purchase-leaves, float-leaves}
 use Rattle.promises.proofs.LeftSales.{sale-leaves}
 use Rattle.promises.proofs.LeftTrains.{train-alone-leaves, train-helped-leaves}
 use Rattle.promises.proofs.Opened.{opening-standing}
@@ -28,6 +29,8 @@ leaves b law s ok =
       bill = bill-leaves b law s ok;
       payout = payout-leaves b law s ok;
       sale = sale-leaves b law s ok;
+      purchase = purchase-leaves b law s ok;
+      float = float-leaves b law s ok;
       train-alone = train-alone-leaves b law s ok;
       train-helped = train-helped-leaves b law s ok;
     }

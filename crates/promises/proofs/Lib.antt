@@ -40,4 +40,5 @@ pub mod LeftParts
 pub mod LeftPayouts
 pub mod LeftTrains
 pub mod LeftSales
+pub mod LeftPurchases
 pub mod Left

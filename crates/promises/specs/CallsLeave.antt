@@ -114,6 +114,10 @@ pub record Leaves (b : Book) (s : Books) : Type 0 where
   pub train-helped : (card company kind : ℕ) → answer b s (Train card company kind) ≡ Ok tt → needs-help s company (b .train-price kind) ≡ true → (seat : ℕ) → director s company ≡ Some seat
       → Train-helped-leaves s (after b s (Train card company kind)) company kind (b .train-price kind) seat
   pub sale : (card seat company tenths : ℕ) → answer b s (Sell card seat company tenths) ≡ Ok tt → Sale-leaves s (after b s (Sell card seat company tenths)) seat company (tenths * price-of b s company)
+  pub purchase : (card seat company source space : ℕ) → answer b s (Buy card seat company source space) ≡ Ok tt → floats b s company source ≡ false
+      → Purchase-leaves s (after b s (Buy card seat company source space)) seat company (payee b s company source) (cost b s company source space)
+  pub float : (card seat company source space : ℕ) → answer b s (Buy card seat company source space) ≡ Ok tt → floats b s company source ≡ true
+      → Float-leaves s (after b s (Buy card seat company source space)) seat company (cost b s company source space) (float-money b s company source space)
 
 abbrev pub Calls-leave : Type 0
 Calls-leave = (b : Book) → Lawful b → (players cash : ℕ) → b .opening players ≡ Some cash → (life : List Call) → Leaves b (lived b (opened b players cash) life)
