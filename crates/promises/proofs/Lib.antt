@@ -41,4 +41,5 @@ pub mod LeftPayouts
 pub mod LeftTrains
 pub mod LeftSales
 pub mod LeftPurchases
+pub mod LeftTenths
 pub mod Left

@@ -10,11 +10,11 @@ use Rattle.std.specs.declared.result.Result.the-variants.{Ok}
 use Rattle.rulebook.specs.Book.{Book}
 use Rattle.rulebook.specs.Lawful.{Lawful}
 use Rattle.rulebook.specs.declared.split.Split.{Split}
-use Rattle.ledger.specs.Holdings.{bank, treasury, pool, stack, marks-at, tenths-at, seat-tenths, trains-held, director, price-of}
+use Rattle.ledger.specs.Holdings.{bank, treasury, pool, seat-papers, stack, marks-at, tenths-at, seat-tenths, trains-held, director, price-of}
 use Rattle.ledger.specs.Lives.{answer, after}
 use Rattle.ledger.specs.Opening.{opened}
 use Rattle.ledger.specs.Operating.{payout-sum, company-share, needs-help, missing}
-use Rattle.ledger.specs.Stock.{payee, cost, floats, float-money}
+use Rattle.ledger.specs.Stock.{bought-size, payee, cost, floats, float-money}
 use Rattle.ledger.specs.declared.books.Books.{Books}
 use Rattle.ledger.specs.declared.call.Call.{Call}
 use Rattle.ledger.specs.declared.call.Call.the-variants.{Sell, Buy, End, Close, Bill, Payout, Train, Done, Reopen}
@@ -86,6 +86,12 @@ pub record Sale-leaves (s t : Books) (seat company money : ℕ) : Type 0 where
   pub other-papers : (other : ℕ) → 1 ≤ other → other ≤ 8 → other ≢ company → Same-papers s t other
   pub same-trains : All-trains-same s t
 
+-- of that company, the tenths come from the seller to the pool; where another seat becomes director, it keeps its tenths too
+pub record Tenths-sold (s t : Books) (seat company tenths : ℕ) : Type 0 where
+  pub seller-gives : seat-tenths t company seat + tenths ≡ seat-tenths s company seat
+  pub pool-gets : tenths-at t company pool ≡ tenths-at s company pool + tenths
+  pub others-keep : (place : ℕ) → place ≢ seat-papers seat → place ≢ pool → tenths-at t company place ≡ tenths-at s company place
+
 -- the buyer pays the payee the cost
 pub record Purchase-leaves (s t : Books) (seat company to money : ℕ) : Type 0 where
   pub buyer-pays : marks-at t seat ≡ marks-at s seat -ℤ pos money
@@ -114,10 +120,13 @@ pub record Leaves (b : Book) (s : Books) : Type 0 where
   pub train-helped : (card company kind : ℕ) → answer b s (Train card company kind) ≡ Ok tt → needs-help s company (b .train-price kind) ≡ true → (seat : ℕ) → director s company ≡ Some seat
       → Train-helped-leaves s (after b s (Train card company kind)) company kind (b .train-price kind) seat
   pub sale : (card seat company tenths : ℕ) → answer b s (Sell card seat company tenths) ≡ Ok tt → Sale-leaves s (after b s (Sell card seat company tenths)) seat company (tenths * price-of b s company)
+  pub sale-tenths : (card seat company tenths : ℕ) → answer b s (Sell card seat company tenths) ≡ Ok tt → Tenths-sold s (after b s (Sell card seat company tenths)) seat company tenths
   pub purchase : (card seat company source space : ℕ) → answer b s (Buy card seat company source space) ≡ Ok tt → floats b s company source ≡ false
       → Purchase-leaves s (after b s (Buy card seat company source space)) seat company (payee b s company source) (cost b s company source space)
   pub float : (card seat company source space : ℕ) → answer b s (Buy card seat company source space) ≡ Ok tt → floats b s company source ≡ true
       → Float-leaves s (after b s (Buy card seat company source space)) seat company (cost b s company source space) (float-money b s company source space)
+  pub buyer-tenths : (card seat company source space : ℕ) → answer b s (Buy card seat company source space) ≡ Ok tt
+      → seat-tenths (after b s (Buy card seat company source space)) company seat ≡ seat-tenths s company seat + bought-size s company source
 
 abbrev pub Calls-leave : Type 0
 Calls-leave = (b : Book) → Lawful b → (players cash : ℕ) → b .opening players ≡ Some cash → (life : List Call) → Leaves b (lived b (opened b players cash) life)
