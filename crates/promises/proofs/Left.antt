@@ -14,7 +14,7 @@ use Rattle.promises.proofs.LeftParts.{end-leaves, close-leaves, done-leaves, r
 use Rattle.promises.proofs.LeftPayouts.{payout-leaves}
 use Rattle.promises.proofs.LeftPurchases.{purchase-leaves, float-leaves}
 use Rattle.promises.proofs.LeftSales.{sale-leaves}
-use Rattle.promises.proofs.LeftTenths.{tenths-sold, buyer-tenths}
+use Rattle.promises.proofs.LeftTenths.{tenths-sold, tenths-bought}
 use Rattle.promises.proofs.LeftTrains.{train-alone-leaves, train-helped-leaves}
 use Rattle.promises.proofs.Directed.{opening-led}
 use Rattle.promises.proofs.Led.{Led}
@@ -35,7 +35,7 @@ leaves b law s ok led =
       sale-tenths = tenths-sold b law s (ok .sound) led;
       purchase = purchase-leaves b law s ok;
       float = float-leaves b law s ok;
-      buyer-tenths = buyer-tenths b law s (ok .sound) led;
+      purchase-tenths = tenths-bought b law s (ok .sound) led;
       train-alone = train-alone-leaves b law s ok;
       train-helped = train-helped-leaves b law s ok;
     }

@@ -7,7 +7,9 @@ use Prim.Native.Nat.{ℕ, _+_, _-_, _*_, _≤_, _<_, min}
 use native.Mathlib.Omega.{arith}
 use lib.Dec.{eqb, ltb}
 use lib.ListN.{getD}
-use Rattle.std.proofs.shelf.Tests.{and-parts, and-cases, ltb-true, ltb-false, eqb-true, eqb-false, true≢false}
+use Rattle.std.proofs.shelf.Tests.{and-parts, and-cases, ltb-true, ltb-false, eqb-true, eqb-false, not-true, true≢false}
+use Rattle.std.specs.declared.option.Option.{Option}
+use Rattle.std.specs.declared.option.Option.the-variants.{Some, None}
 use Rattle.std.specs.declared.result.Result.the-variants.{Ok}
 use Rattle.kinds.specs.Papers.{bit, sized, size, no-papers}
 use Rattle.kinds.specs.declared.papers.Papers.{Papers}
@@ -15,25 +17,31 @@ use Rattle.rulebook.specs.Book.{Book}
 use Rattle.rulebook.specs.Lawful.{Lawful}
 use Rattle.ledger.specs.Certificates.{lowest-one, lowest-ordinary}
 use Rattle.ledger.specs.Crossings.{Crossing, pays, hands, all-crossed}
-use Rattle.ledger.specs.Holdings.{bank, pool, seat-papers, company-of, papers-at, tenths-at, seat-tenths, price-of, largest-other, is-director}
+use Rattle.ledger.specs.Holdings.{bank, treasury, pool, director, seat-papers, company-of, papers-at, tenths-at, seat-tenths, price-of, largest-other, is-director}
 use Rattle.ledger.specs.Lives.{answer, granted-after, if-granted, after}
-use Rattle.ledger.specs.Stock.{exchange, keeps, another-leads, sell-exchange, sell-crossings, sell-after, source-set, bought-size, purchase, buy-crossings, buy-after}
+use Rattle.ledger.specs.Stock.{exchange, keeps, another-leads, sell-exchange, sell-crossings, sell-after, source-set, bought-size, purchase, overtakes, floats, float-money, float-crossing, buy-crossings, buy-after}
 use Rattle.ledger.specs.declared.books.Books.{Books}
 use Rattle.ledger.specs.declared.call.Call.the-variants.{Sell, Buy}
 use Rattle.ledger.proofs.Crossed.{crossed-append}
-use Rattle.promises.specs.CallsLeave.{Tenths-sold}
+use Rattle.promises.specs.CallsLeave.{Tenths-sold, Tenths-bought}
 use Rattle.promises.proofs.Counts.{tenths-ordinary}
 use Rattle.promises.proofs.Exchanges.{Exchanged, exchange-swaps}
-use Rattle.promises.proofs.Led.{Led, one-place}
-use Rattle.promises.proofs.LedPurchases.{Settled, May-buy, may-buy-then, Sized, first-moves, first-sized, bought, rows-after}
+use Rattle.promises.proofs.Led.{Led, one-place, at-least-two}
+use Rattle.promises.proofs.LedPurchases.{May-buy, may-buy-then, Sized, first-moves, first-sized, rows-after}
 use Rattle.promises.proofs.LedSales.{May-sell, may-sell, rest-moves, same-papers-row}
-use Rattle.promises.proofs.Seats.{largest-other-in, largest-other-other}
+use Rattle.promises.proofs.Seats.{largest-other-in, largest-other-other, director-holds}
 use Rattle.promises.proofs.Sound.{Sound, crossings-sound}
 use Rattle.promises.proofs.Tenths.{Handed, tens, heads}
 
 -- of numbers
 size-added : (t0 t1 t2 x size : ℕ) → t1 ≡ t0 + x → t2 ≡ t1 → x ≡ size → t2 ≡ t0 + size
 size-added t0 t1 t2 x size e f g = omega arith
+
+size-left : (t0 t1 t2 x size : ℕ) → t1 + x ≡ t0 → t2 ≡ t1 → x ≡ size → t2 + size ≡ t0
+size-left t0 t1 t2 x size e f g = omega arith
+
+two-below : (x y : ℕ) → 2 ≤ x → x < y → 2 ≤ y
+two-below x y h k = omega arith
 
 gave-all : (tenths t b r : ℕ) → t ≡ 2 * b + r → b ≡ 0 → tenths ≤ t → min tenths r ≡ tenths
 gave-all tenths t b r e z h = omega arith
@@ -58,17 +66,65 @@ no-more-than-one : (x y : ℕ) → x + y ≤ 1 → x ≢ 1 → x ≡ 0
 no-more-than-one x y h ne = omega arith
 
 module _ (b : Book) (lawful : Lawful b) (s : Books) (ok : Sound b s) (led : Led b s) where
-  pub buyer-tenths : (card seat company source space : ℕ) → answer b s (Buy card seat company source space) ≡ Ok tt → seat-tenths (after b s (Buy card seat company source space)) company seat ≡ seat-tenths s company seat + bought-size s company source
-  buyer-tenths card seat company source space e =
-      let may = may-buy-then b s card seat company source space e in
+  module _ (seat company source space : ℕ) (may : May-buy b s seat company source) where
+    abbrev with-it : Books
+    with-it = all-crossed s (purchase b s seat company source space)
+
+    abbrev third : List Crossing
+    third = float-crossing b s company source space
+
+    there : Sound b with-it
+    there = crossings-sound b (lawful .bank-range .1) s ok (purchase b s seat company source space)
+
+    in-range : company ≤ 8
+    in-range = let a = may .in-book .1 in let c = lawful .companies-range .1 in omega arith
+
+    -- an exchange leaves every tenth count as it was
+    settled : (o : Option ℕ) → director with-it company ≡ o → (p : ℕ) → tens (all-crossed with-it (overtakes with-it seat company o)) company p ≡ tens with-it company p
+    settled None e p = refl
+    settled (Some old) e p = by-test (not (eqb old seat) && ltb (seat-tenths with-it company old) (seat-tenths with-it company seat)) refl
+      where
+        by-test : (test : Bool) → (not (eqb old seat) && ltb (seat-tenths with-it company old) (seat-tenths with-it company seat)) ≡ test → tens (all-crossed with-it (cond test (exchange with-it company seat old) [])) company p ≡ tens with-it company p
+        by-test true yes-test =
+            let d = director-holds with-it company old e in
+            let holds = eqb-true (heads with-it company (old + 1)) 1 (d .0) in
+            let parts = and-parts (not (eqb old seat)) (ltb (seat-tenths with-it company old) (seat-tenths with-it company seat)) yes-test in
+            let apart : seat ≢ old = λ same. eqb-false old seat (not-true _ (parts .0)) (sym same) in
+            let more = ltb-true (tens with-it company (old + 1)) (tens with-it company (seat + 1)) (parts .1) in
+            let has = two-below (tens with-it company (old + 1)) (tens with-it company (seat + 1)) (at-least-two (papers-at with-it company (old + 1) .certificates) holds) more in
+            exchange-swaps b (lawful .bank-range .1) with-it there company seat old (may .in-book .0) in-range apart (may .s1) (may .sn) (d .1) (d .2) holds has .tenths p
+        by-test false no-test = refl
+
+    paid : (u : Books) (test : Bool) (p : ℕ) → tens (all-crossed u (cond test (pays bank (treasury s company) (float-money b s company source space) ∷ []) [])) company p ≡ tens u company p
+    paid u true p = refl
+    paid u false p = refl
+
+    all-bought : (p : ℕ) → tens (all-crossed s (buy-crossings b s seat company source space)) company p ≡ tens with-it company p
+    all-bought p =
+        let first = purchase b s seat company source space in
+        let second = overtakes with-it seat company (director with-it company) in
+        ap (λ (u : Books). tens u company p) (crossed-append s first (second ++ third) ∙ crossed-append with-it second third)
+        ∙ (paid (all-crossed with-it second) (floats b s company source) p ∙ settled (director with-it company) refl p)
+
+    noted : (p : ℕ) → tens (buy-after b s seat company source space) company p ≡ tens with-it company p
+    noted p =
+        ap (λ (row : List Papers). sized size 0 9 (getD row p no-papers .certificates)) (rows-after b lawful s ok led seat company source space may company) ∙ all-bought p
+
+    all-tenths : Tenths-bought s (buy-after b s seat company source space) seat company source (bought-size s company source)
+    all-tenths =
+        let h = first-moves b lawful s ok led seat company source space may in
+        let x = first-sized b lawful s ok led seat company source space may .tenths in
+        record {
+          buyer-gets = size-added (tens s company (seat + 1)) (tens with-it company (seat + 1)) _ _ (bought-size s company source) (h .took) (noted (seat + 1)) x;
+          source-gives = size-left (tens s company source) (tens with-it company source) _ _ (bought-size s company source) (h .gave) (noted source) x;
+          others-keep = λ place ns np. noted place ∙ h .others place np ns;
+        }
+
+  pub tenths-bought : (card seat company source space : ℕ) → answer b s (Buy card seat company source space) ≡ Ok tt → Tenths-bought s (after b s (Buy card seat company source space)) seat company source (bought-size s company source)
+  tenths-bought card seat company source space e =
       let c = Buy card seat company source space in
-      let t = all-crossed s (purchase b s seat company source space) in
-      let u = all-crossed s (buy-crossings b s seat company source space) in
-      let found = lowest-one (source-set s company source) in
-      ap (λ a. seat-tenths (if-granted a (granted-after b s c) s) company seat) e
-      ∙ (ap (λ (row : List Papers). sized size 0 9 (getD row (seat + 1) no-papers .certificates)) (rows-after b lawful s ok led seat company source space may company)
-      ∙ size-added (tens s company (seat + 1)) (tens t company (seat + 1)) (tens u company (seat + 1)) (sized size 0 9 found) (bought-size s company source)
-      (first-moves b lawful s ok led seat company source space may .took) (bought b lawful s ok led seat company source space may .tenths) (first-sized b lawful s ok led seat company source space may .tenths))
+      subst (λ a. Tenths-bought s (if-granted a (granted-after b s c) s) seat company source (bought-size s company source)) (sym e)
+      (all-tenths seat company source space (may-buy-then b s card seat company source space e))
 
   module _ (seat company tenths : ℕ) (may : May-sell b s seat company tenths) where
     abbrev new : ℕ

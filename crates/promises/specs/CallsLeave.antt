@@ -109,6 +109,12 @@ pub record Float-leaves (s t : Books) (seat company money first : ℕ) : Type 0 
   pub other-papers : (other : ℕ) → 1 ≤ other → other ≤ 8 → other ≢ company → Same-papers s t other
   pub same-trains : All-trains-same s t
 
+-- of that company, the tenths come from the source to the buyer; where the buyer becomes director, both keep their tenths
+pub record Tenths-bought (s t : Books) (seat company source tenths : ℕ) : Type 0 where
+  pub buyer-gets : seat-tenths t company seat ≡ seat-tenths s company seat + tenths
+  pub source-gives : tenths-at t company source + tenths ≡ tenths-at s company source
+  pub others-keep : (place : ℕ) → place ≢ seat-papers seat → place ≢ source → tenths-at t company place ≡ tenths-at s company place
+
 pub record Leaves (b : Book) (s : Books) : Type 0 where
   pub end : (card seat : ℕ) → answer b s (End card seat) ≡ Ok tt → Nothing-moves s (after b s (End card seat))
   pub close : (card : ℕ) → answer b s (Close card) ≡ Ok tt → Nothing-moves s (after b s (Close card))
@@ -125,8 +131,8 @@ pub record Leaves (b : Book) (s : Books) : Type 0 where
       → Purchase-leaves s (after b s (Buy card seat company source space)) seat company (payee b s company source) (cost b s company source space)
   pub float : (card seat company source space : ℕ) → answer b s (Buy card seat company source space) ≡ Ok tt → floats b s company source ≡ true
       → Float-leaves s (after b s (Buy card seat company source space)) seat company (cost b s company source space) (float-money b s company source space)
-  pub buyer-tenths : (card seat company source space : ℕ) → answer b s (Buy card seat company source space) ≡ Ok tt
-      → seat-tenths (after b s (Buy card seat company source space)) company seat ≡ seat-tenths s company seat + bought-size s company source
+  pub purchase-tenths : (card seat company source space : ℕ) → answer b s (Buy card seat company source space) ≡ Ok tt
+      → Tenths-bought s (after b s (Buy card seat company source space)) seat company source (bought-size s company source)
 
 abbrev pub Calls-leave : Type 0
 Calls-leave = (b : Book) → Lawful b → (players cash : ℕ) → b .opening players ≡ Some cash → (life : List Call) → Leaves b (lived b (opened b players cash) life)
