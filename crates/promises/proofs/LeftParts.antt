@@ -1,24 +1,22 @@
 -- What each kind of call leaves, by the crossings of the call.
-use mathlib.Core.Path.{_≡_, refl, sym, ap, subst, _∙_}
-use mathlib.Core.Bool.{Bool, true, false, cond, _&&_}
-use mathlib.Core.List.{List, [], _∷_, _++_}
-use mathlib.Core.Logic.{_≢_, ⊎-elim}
-use Prim.Native.Nat.{ℕ, zero, suc, _+_, _*_, _≤_, _<_}
+use mathlib.Core.Path.{_≡_, refl, sym, ap, _∙_}
+use mathlib.Core.Bool.{cond}
+use mathlib.Core.List.{[]}
+use mathlib.Core.Logic.{_≢_}
+use Prim.Native.Nat.{ℕ, _+_}
 use native.Mathlib.Omega.{arith}
 use lib.Dec.{eqb}
 use lib.IntN.{ℤ, pos, _+ℤ_, _-ℤ_}
 use Rattle.std.proofs.shelf.Signed.{ints}
 use Rattle.std.proofs.shelf.Tests.{eq-eqb, ne-eqb}
-use Rattle.std.specs.declared.result.Result.the-variants.{Ok, Err}
+use Rattle.std.specs.declared.result.Result.the-variants.{Ok}
 use Rattle.rulebook.specs.Book.{Book}
-use Rattle.rulebook.specs.Lawful.{Lawful, Between}
-use Rattle.ledger.specs.Answers.{on-operating-turn}
-use Rattle.ledger.specs.Crossings.{Crossing, pays, hands, moves, all-crossed}
-use Rattle.ledger.specs.Holdings.{bank, treasury, marks-at, trains-held}
+use Rattle.rulebook.specs.Lawful.{Lawful}
+use Rattle.ledger.specs.Holdings.{bank, treasury, trains-held}
 use Rattle.ledger.specs.Lives.{answer, crossings-of, granted-after, if-granted, after}
 use Rattle.ledger.specs.declared.books.Books.{Books}
 use Rattle.ledger.specs.declared.call.Call.{Call}
-use Rattle.ledger.specs.declared.call.Call.the-variants.{Sell, Buy, End, Close, Bill, Payout, Train, Done, Reopen}
+use Rattle.ledger.specs.declared.call.Call.the-variants.{End, Close, Bill, Done, Reopen}
 use Rattle.promises.specs.Accounts.{HandOf, cash-hand, paper-hand, train-hand, Of-a-table, tally-of, receipts, gifts}
 use Rattle.promises.specs.CallsLeave.{Nothing-moves, Bill-leaves, All-papers-same, All-trains-same}
 use Rattle.promises.proofs.Calls.{call-carried}

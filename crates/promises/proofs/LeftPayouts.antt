@@ -4,10 +4,8 @@ use mathlib.Core.List.{List, [], _∷_, _++_}
 use mathlib.Core.Logic.{_≢_, ⊎-elim}
 use Prim.Native.Nat.{ℕ, zero, suc, _+_, _*_, _≤_, _<_}
 use native.Mathlib.Omega.{arith}
-use lib.Dec.{eqb}
 use Rattle.std.proofs.shelf.Tests.{cases-eq}
-use Rattle.std.specs.declared.option.Option.{Option}
-use Rattle.std.specs.declared.option.Option.the-variants.{Some, None}
+use Rattle.std.specs.declared.option.Option.the-variants.{Some}
 use Rattle.std.specs.declared.result.Result.the-variants.{Ok}
 use Rattle.rulebook.specs.Book.{Book}
 use Rattle.rulebook.specs.Lawful.{Lawful, Between}
@@ -133,31 +131,31 @@ module _ (b : Book) (law : Lawful b) (s : Books) (ok : Standing b s) (card compa
       let far = treasury-no-bank b law s ok company in
       record {
         seat-gets =
-          λ seat low high.
-          more b law s ok c e (cash-hand seat) tt 0 (d * seat-tenths s company seat)
-          (got (cash-hand seat) 0 (d * seat-tenths s company seat) 0 (among-them s company d n 1 seat low (omega arith)) (and-nought _ 0 0 (miss seat (treasury s company) share (λ k. omega arith)) refl) ∙ none-more (d * seat-tenths s company seat))
-          (gave (cash-hand seat) 0 0 0 (others-keep s company d n 1 seat (λ k. omega arith)) (and-nought _ 0 0 (miss seat bank share (λ k. omega arith)) refl));
+            λ seat low high.
+            more b law s ok c e (cash-hand seat) tt 0 (d * seat-tenths s company seat)
+            (got (cash-hand seat) 0 (d * seat-tenths s company seat) 0 (among-them s company d n 1 seat low (omega arith)) (and-nought _ 0 0 (miss seat (treasury s company) share (λ k. omega arith)) refl) ∙ none-more (d * seat-tenths s company seat))
+            (gave (cash-hand seat) 0 0 0 (others-keep s company d n 1 seat (λ k. omega arith)) (and-nought _ 0 0 (miss seat bank share (λ k. omega arith)) refl));
         company-gets =
-          more b law s ok c e (cash-hand (treasury s company)) tt 0 share
-          (got (cash-hand (treasury s company)) 0 0 share (above-them s company d n 1 (treasury s company) (omega arith)) (and-nought _ 0 share (hit (treasury s company) (treasury s company) share refl) refl) ∙ sym (noughts share))
-          (gave (cash-hand (treasury s company)) 0 0 0 (others-keep s company d n 1 (treasury s company) far) (and-nought _ 0 0 (miss (treasury s company) bank share far) refl));
+            more b law s ok c e (cash-hand (treasury s company)) tt 0 share
+            (got (cash-hand (treasury s company)) 0 0 share (above-them s company d n 1 (treasury s company) (omega arith)) (and-nought _ 0 share (hit (treasury s company) (treasury s company) share refl) refl) ∙ sym (noughts share))
+            (gave (cash-hand (treasury s company)) 0 0 0 (others-keep s company d n 1 (treasury s company) far) (and-nought _ 0 0 (miss (treasury s company) bank share far) refl));
         bank-pays =
-          less b law s ok c e (cash-hand bank) tt 0 (payout-sum s company split)
-          (got (cash-hand bank) 0 0 0 (below-them s company d n 1 bank (omega arith)) (and-nought _ 0 0 (miss bank (treasury s company) share (λ k. far (sym k))) refl))
-          (gave (cash-hand bank) 0 (dividend-sum s company d 1 n) share (bank-gives s company d n 1) (and-nought _ 0 share (hit bank bank share refl) refl));
+            less b law s ok c e (cash-hand bank) tt 0 (payout-sum s company split)
+            (got (cash-hand bank) 0 0 0 (below-them s company d n 1 bank (omega arith)) (and-nought _ 0 0 (miss bank (treasury s company) share (λ k. far (sym k))) refl))
+            (gave (cash-hand bank) 0 (dividend-sum s company d 1 n) share (bank-gives s company d n 1) (and-nought _ 0 share (hit bank bank share refl) refl));
         other-cash =
-          λ place high ne.
-          same b law s ok c e (cash-hand place) tt 0
-          (got (cash-hand place) 0 0 0 (above-them s company d n 1 place (omega arith)) (and-nought _ 0 0 (miss place (treasury s company) share ne) refl))
-          (gave (cash-hand place) 0 0 0 (others-keep s company d n 1 place (λ k. omega arith)) (and-nought _ 0 0 (miss place bank share (λ k. omega arith)) refl));
+            λ place high ne.
+            same b law s ok c e (cash-hand place) tt 0
+            (got (cash-hand place) 0 0 0 (above-them s company d n 1 place (omega arith)) (and-nought _ 0 0 (miss place (treasury s company) share ne) refl))
+            (gave (cash-hand place) 0 0 0 (others-keep s company d n 1 place (λ k. omega arith)) (and-nought _ 0 0 (miss place bank share (λ k. omega arith)) refl));
         same-papers =
-          papers-same b law s ok c e
-          (λ other place tag. got (paper-hand other place) tag 0 0 (no-papers-come s company d n 1 other place tag) refl)
-          (λ other place tag. gave (paper-hand other place) tag 0 0 (no-papers-go s company d n 1 other place tag) refl);
+            papers-same b law s ok c e
+            (λ other place tag. got (paper-hand other place) tag 0 0 (no-papers-come s company d n 1 other place tag) refl)
+            (λ other place tag. gave (paper-hand other place) tag 0 0 (no-papers-go s company d n 1 other place tag) refl);
         same-trains =
-          trains-same b law s ok c e
-          (λ place tag. got (train-hand place) tag 0 0 (no-trains-come s company d n 1 place tag) refl)
-          (λ place tag. gave (train-hand place) tag 0 0 (no-trains-go s company d n 1 place tag) refl);
+            trains-same b law s ok c e
+            (λ place tag. got (train-hand place) tag 0 0 (no-trains-come s company d n 1 place tag) refl)
+            (λ place tag. gave (train-hand place) tag 0 0 (no-trains-go s company d n 1 place tag) refl);
       }
     where
       none-more : (n : ℕ) → n + 0 ≡ n

@@ -1,19 +1,18 @@
 -- What a granted purchase leaves in the hands of cash and trains, and in the papers of the other companies.
-use mathlib.Core.Path.{_≡_, refl, sym, ap, subst, _∙_}
+use mathlib.Core.Path.{_≡_, refl, sym, ap, _∙_}
 use mathlib.Core.Bool.{Bool, true, false, not, cond, _&&_}
 use mathlib.Core.List.{List, [], _∷_, _++_}
 use mathlib.Core.Logic.{_≢_}
 use Prim.Native.Nat.{ℕ, zero, suc, _+_, _≤_}
 use native.Mathlib.Omega.{arith}
 use lib.Dec.{eqb, leb, ltb}
-use lib.IntN.{ℤ, pos, _+ℤ_, _-ℤ_}
 use Rattle.std.proofs.shelf.Tests.{and-parts}
 use Rattle.std.specs.declared.option.Option.{Option}
 use Rattle.std.specs.declared.option.Option.the-variants.{Some, None}
 use Rattle.std.specs.declared.result.Result.the-variants.{Ok}
 use Rattle.rulebook.specs.Book.{Book}
 use Rattle.rulebook.specs.Lawful.{Lawful}
-use Rattle.ledger.specs.Crossings.{Crossing, pays, hands, all-crossed}
+use Rattle.ledger.specs.Crossings.{Crossing, pays, all-crossed}
 use Rattle.ledger.specs.Holdings.{bank, treasury, seat-papers, seat-tenths, company-of, director}
 use Rattle.ledger.specs.Lives.{answer, crossings-of, after}
 use Rattle.ledger.specs.Stock.{purchase, overtakes, float-crossing, floats, float-money, payee, cost, is-sold-funding, gone-then}
@@ -152,21 +151,21 @@ module _ (b : Book) (law : Lawful b) (s : Books) (ok : Standing b s) (card seat 
       let apart = payee-other b s company source seat no-bank no-company in
       record {
         buyer-pays =
-          less b law s ok c e (cash-hand seat) tt 0 money
-          (cash-got [] float seat 0 0 (miss seat to money apart) refl)
-          (first-only _ money (cash-gave [] float seat money 0 (hit seat seat money refl) refl));
+            less b law s ok c e (cash-hand seat) tt 0 money
+            (cash-got [] float seat 0 0 (miss seat to money apart) refl)
+            (first-only _ money (cash-gave [] float seat money 0 (hit seat seat money refl) refl));
         payee-gets =
-          more b law s ok c e (cash-hand to) tt 0 money
-          (first-only _ money (cash-got [] float to money 0 (hit to to money refl) refl))
-          (cash-gave [] float to 0 0 (miss to seat money (λ k. apart (sym k))) refl);
+            more b law s ok c e (cash-hand to) tt 0 money
+            (first-only _ money (cash-got [] float to money 0 (hit to to money refl) refl))
+            (cash-gave [] float to 0 0 (miss to seat money (λ k. apart (sym k))) refl);
         other-cash =
-          λ place ns np.
-          same b law s ok c e (cash-hand place) tt 0
-          (cash-got [] float place 0 0 (miss place to money np) refl)
-          (cash-gave [] float place 0 0 (miss place seat money ns) refl);
+            λ place ns np.
+            same b law s ok c e (cash-hand place) tt 0
+            (cash-got [] float place 0 0 (miss place to money np) refl)
+            (cash-gave [] float place 0 0 (miss place seat money ns) refl);
         other-papers =
-          λ other low high ne place tag.
-          same b law s ok c e (paper-hand other place) (low, high) tag (others-got [] float other place tag ne refl) (others-gave [] float other place tag ne refl);
+            λ other low high ne place tag.
+            same b law s ok c e (paper-hand other place) (low, high) tag (others-got [] float other place tag ne refl) (others-gave [] float other place tag ne refl);
         same-trains = trains-same b law s ok c e (λ place tag. trains-got [] float place tag refl) (λ place tag. trains-gave [] float place tag refl);
       }
 
@@ -183,24 +182,24 @@ module _ (b : Book) (law : Lawful b) (s : Books) (ok : Standing b s) (card seat 
       let apart = payee-other b s company source seat no-bank no-company in
       record {
         buyer-pays =
-          less b law s ok c e (cash-hand seat) tt 0 money
-          (cash-got fs float seat 0 0 (miss seat to money apart) (ended _ 0 (miss seat (treasury s company) start no-company)))
-          (first-only _ money (cash-gave fs float seat money 0 (hit seat seat money refl) (ended _ 0 (miss seat bank start no-bank))));
+            less b law s ok c e (cash-hand seat) tt 0 money
+            (cash-got fs float seat 0 0 (miss seat to money apart) (ended _ 0 (miss seat (treasury s company) start no-company)))
+            (first-only _ money (cash-gave fs float seat money 0 (hit seat seat money refl) (ended _ 0 (miss seat bank start no-bank))));
         bank-gets-and-pays =
-          both b law s ok c e (cash-hand bank) tt 0 money start
-          (first-only _ money (cash-got fs float bank money 0 (hit bank to money (sym is-bank)) (ended _ 0 (miss bank (treasury s company) start (λ k. far (sym k))))))
-          (last-only _ start (cash-gave fs float bank 0 start (miss bank seat money (λ k. no-bank (sym k))) (ended _ start (hit bank bank start refl))));
+            both b law s ok c e (cash-hand bank) tt 0 money start
+            (first-only _ money (cash-got fs float bank money 0 (hit bank to money (sym is-bank)) (ended _ 0 (miss bank (treasury s company) start (λ k. far (sym k))))))
+            (last-only _ start (cash-gave fs float bank 0 start (miss bank seat money (λ k. no-bank (sym k))) (ended _ start (hit bank bank start refl))));
         company-gets =
-          more b law s ok c e (cash-hand (treasury s company)) tt 0 start
-          (last-only _ start (cash-got fs float (treasury s company) 0 start (miss (treasury s company) to money (λ k. far (k ∙ is-bank))) (ended _ start (hit (treasury s company) (treasury s company) start refl))))
-          (cash-gave fs float (treasury s company) 0 0 (miss (treasury s company) seat money (λ k. no-company (sym k))) (ended _ 0 (miss (treasury s company) bank start far)));
+            more b law s ok c e (cash-hand (treasury s company)) tt 0 start
+            (last-only _ start (cash-got fs float (treasury s company) 0 start (miss (treasury s company) to money (λ k. far (k ∙ is-bank))) (ended _ start (hit (treasury s company) (treasury s company) start refl))))
+            (cash-gave fs float (treasury s company) 0 0 (miss (treasury s company) seat money (λ k. no-company (sym k))) (ended _ 0 (miss (treasury s company) bank start far)));
         other-cash =
-          λ place ns nb nt.
-          same b law s ok c e (cash-hand place) tt 0
-          (cash-got fs float place 0 0 (miss place to money (λ k. nb (k ∙ is-bank))) (ended _ 0 (miss place (treasury s company) start nt)))
-          (cash-gave fs float place 0 0 (miss place seat money ns) (ended _ 0 (miss place bank start nb)));
+            λ place ns nb nt.
+            same b law s ok c e (cash-hand place) tt 0
+            (cash-got fs float place 0 0 (miss place to money (λ k. nb (k ∙ is-bank))) (ended _ 0 (miss place (treasury s company) start nt)))
+            (cash-gave fs float place 0 0 (miss place seat money ns) (ended _ 0 (miss place bank start nb)));
         other-papers =
-          λ other low high ne place tag.
-          same b law s ok c e (paper-hand other place) (low, high) tag (others-got fs float other place tag ne refl) (others-gave fs float other place tag ne refl);
+            λ other low high ne place tag.
+            same b law s ok c e (paper-hand other place) (low, high) tag (others-got fs float other place tag ne refl) (others-gave fs float other place tag ne refl);
         same-trains = trains-same b law s ok c e (λ place tag. trains-got fs float place tag refl) (λ place tag. trains-gave fs float place tag refl);
       }

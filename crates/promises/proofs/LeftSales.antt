@@ -1,12 +1,11 @@
 -- What a granted sale leaves in the hands of cash and trains, and in the papers of the other companies.
-use mathlib.Core.Path.{_≡_, refl, sym, ap, subst, _∙_}
+use mathlib.Core.Path.{_≡_, refl, sym, ap, _∙_}
 use mathlib.Core.Bool.{Bool, true, false, cond, _&&_}
-use mathlib.Core.List.{List, [], _∷_, _++_}
+use mathlib.Core.List.{List, [], _∷_}
 use mathlib.Core.Logic.{_≢_}
 use Prim.Native.Nat.{ℕ, _+_, _*_, _≤_}
 use native.Mathlib.Omega.{arith}
 use lib.Dec.{eqb}
-use lib.IntN.{ℤ, pos, _+ℤ_, _-ℤ_}
 use Rattle.std.proofs.shelf.Tests.{ne-eqb}
 use Rattle.std.specs.declared.result.Result.the-variants.{Ok}
 use Rattle.rulebook.specs.Book.{Book}
@@ -90,27 +89,27 @@ module _ (b : Book) (law : Lawful b) (s : Books) (ok : Standing b s) (card seat 
       let no-bank : seat ≢ bank = λ k. not-nought seat (q .0) k in
       record {
         seller-gets =
-          more b law s ok c e (cash-hand seat) tt 0 money
-          (none-and _ money (got (cash-hand seat) 0 0 money (exchange-no-cash-comes s company big seat lead seat 0) (ended _ money (hit seat seat money refl))))
-          (gave (cash-hand seat) 0 0 0 (exchange-no-cash-goes s company big seat lead seat 0) (ended _ 0 (miss seat bank money no-bank)));
+            more b law s ok c e (cash-hand seat) tt 0 money
+            (none-and _ money (got (cash-hand seat) 0 0 money (exchange-no-cash-comes s company big seat lead seat 0) (ended _ money (hit seat seat money refl))))
+            (gave (cash-hand seat) 0 0 0 (exchange-no-cash-goes s company big seat lead seat 0) (ended _ 0 (miss seat bank money no-bank)));
         bank-pays =
-          less b law s ok c e (cash-hand bank) tt 0 money
-          (got (cash-hand bank) 0 0 0 (exchange-no-cash-comes s company big seat lead bank 0) (ended _ 0 (miss bank seat money (λ k. no-bank (sym k)))))
-          (none-and _ money (gave (cash-hand bank) 0 0 money (exchange-no-cash-goes s company big seat lead bank 0) (ended _ money (hit bank bank money refl))));
+            less b law s ok c e (cash-hand bank) tt 0 money
+            (got (cash-hand bank) 0 0 0 (exchange-no-cash-comes s company big seat lead bank 0) (ended _ 0 (miss bank seat money (λ k. no-bank (sym k)))))
+            (none-and _ money (gave (cash-hand bank) 0 0 money (exchange-no-cash-goes s company big seat lead bank 0) (ended _ money (hit bank bank money refl))));
         other-cash =
-          λ place nb ns.
-          same b law s ok c e (cash-hand place) tt 0
-          (got (cash-hand place) 0 0 0 (exchange-no-cash-comes s company big seat lead place 0) (ended _ 0 (miss place seat money ns)))
-          (gave (cash-hand place) 0 0 0 (exchange-no-cash-goes s company big seat lead place 0) (ended _ 0 (miss place bank money nb)));
+            λ place nb ns.
+            same b law s ok c e (cash-hand place) tt 0
+            (got (cash-hand place) 0 0 0 (exchange-no-cash-comes s company big seat lead place 0) (ended _ 0 (miss place seat money ns)))
+            (gave (cash-hand place) 0 0 0 (exchange-no-cash-goes s company big seat lead place 0) (ended _ 0 (miss place bank money nb)));
         other-papers =
-          λ other low high ne place tag.
-          same b law s ok c e (paper-hand other place) (low, high) tag
-          (got (paper-hand other place) tag 0 0 (exchange-no-other-comes s company big seat lead other place tag ne) (one-none _ (off-company other company _ (eqb place pool) ne)))
-          (gave (paper-hand other place) tag 0 0 (exchange-no-other-goes s company big seat lead other place tag ne) (one-none _ (off-company other company _ (eqb place (seat-papers seat)) ne)));
+            λ other low high ne place tag.
+            same b law s ok c e (paper-hand other place) (low, high) tag
+            (got (paper-hand other place) tag 0 0 (exchange-no-other-comes s company big seat lead other place tag ne) (one-none _ (off-company other company _ (eqb place pool) ne)))
+            (gave (paper-hand other place) tag 0 0 (exchange-no-other-goes s company big seat lead other place tag ne) (one-none _ (off-company other company _ (eqb place (seat-papers seat)) ne)));
         same-trains =
-          trains-same b law s ok c e
-          (λ place tag. got (train-hand place) tag 0 0 (exchange-no-train-comes s company big seat lead place tag) refl)
-          (λ place tag. gave (train-hand place) tag 0 0 (exchange-no-train-goes s company big seat lead place tag) refl);
+            trains-same b law s ok c e
+            (λ place tag. got (train-hand place) tag 0 0 (exchange-no-train-comes s company big seat lead place tag) refl)
+            (λ place tag. gave (train-hand place) tag 0 0 (exchange-no-train-goes s company big seat lead place tag) refl);
       }
     where
       not-nought : (n : ℕ) → 1 ≤ n → n ≡ 0 → ⊥

@@ -11,27 +11,27 @@ use Rattle.std.proofs.shelf.Tests.{and-parts, and-cases, ltb-true, ltb-false, e
 use Rattle.std.specs.declared.option.Option.{Option}
 use Rattle.std.specs.declared.option.Option.the-variants.{Some, None}
 use Rattle.std.specs.declared.result.Result.the-variants.{Ok}
-use Rattle.kinds.specs.Papers.{bit, sized, size, no-papers}
+use Rattle.kinds.specs.Papers.{sized, size, no-papers}
 use Rattle.kinds.specs.declared.papers.Papers.{Papers}
 use Rattle.rulebook.specs.Book.{Book}
 use Rattle.rulebook.specs.Lawful.{Lawful}
-use Rattle.ledger.specs.Certificates.{lowest-one, lowest-ordinary}
+use Rattle.ledger.specs.Certificates.{lowest-ordinary}
 use Rattle.ledger.specs.Crossings.{Crossing, pays, hands, all-crossed}
-use Rattle.ledger.specs.Holdings.{bank, treasury, pool, director, seat-papers, company-of, papers-at, tenths-at, seat-tenths, price-of, largest-other, is-director}
+use Rattle.ledger.specs.Holdings.{bank, treasury, pool, director, seat-papers, papers-at, tenths-at, seat-tenths, price-of, largest-other, is-director}
 use Rattle.ledger.specs.Lives.{answer, granted-after, if-granted, after}
-use Rattle.ledger.specs.Stock.{exchange, keeps, another-leads, sell-exchange, sell-crossings, sell-after, source-set, bought-size, purchase, overtakes, floats, float-money, float-crossing, buy-crossings, buy-after}
+use Rattle.ledger.specs.Stock.{exchange, keeps, another-leads, sell-exchange, sell-crossings, sell-after, bought-size, purchase, overtakes, floats, float-money, float-crossing, buy-crossings, buy-after}
 use Rattle.ledger.specs.declared.books.Books.{Books}
 use Rattle.ledger.specs.declared.call.Call.the-variants.{Sell, Buy}
 use Rattle.ledger.proofs.Crossed.{crossed-append}
 use Rattle.promises.specs.CallsLeave.{Tenths-sold, Tenths-bought}
 use Rattle.promises.proofs.Counts.{tenths-ordinary}
-use Rattle.promises.proofs.Exchanges.{Exchanged, exchange-swaps}
+use Rattle.promises.proofs.Exchanges.{exchange-swaps}
 use Rattle.promises.proofs.Led.{Led, one-place, at-least-two}
-use Rattle.promises.proofs.LedPurchases.{May-buy, may-buy-then, Sized, first-moves, first-sized, rows-after}
+use Rattle.promises.proofs.LedPurchases.{May-buy, may-buy-then, first-moves, first-sized, rows-after}
 use Rattle.promises.proofs.LedSales.{May-sell, may-sell, rest-moves, same-papers-row}
 use Rattle.promises.proofs.Seats.{largest-other-in, largest-other-other, director-holds}
 use Rattle.promises.proofs.Sound.{Sound, crossings-sound}
-use Rattle.promises.proofs.Tenths.{Handed, tens, heads}
+use Rattle.promises.proofs.Tenths.{tens, heads}
 
 -- of numbers
 size-added : (t0 t1 t2 x size : ℕ) → t1 ≡ t0 + x → t2 ≡ t1 → x ≡ size → t2 ≡ t0 + size

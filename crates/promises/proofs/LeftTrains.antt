@@ -1,6 +1,6 @@
 -- What a granted purchase of a train leaves.
-use mathlib.Core.Path.{_≡_, refl, sym, ap, subst, _∙_}
-use mathlib.Core.Bool.{Bool, true, false, not, cond, _&&_}
+use mathlib.Core.Path.{_≡_, refl, sym, ap, _∙_}
+use mathlib.Core.Bool.{Bool, true, false, not, cond}
 use mathlib.Core.List.{List, [], _∷_, _++_}
 use mathlib.Core.Logic.{_≢_}
 use Prim.Native.Nat.{ℕ, _+_, _≤_}
@@ -84,27 +84,27 @@ module _ (b : Book) (law : Lawful b) (s : Books) (ok : Standing b s) (card compa
           let apart : company ≢ stack = λ k. not-nought company (there .0) k in
           record {
             company-gets =
-              more-count (trains-held s company kind) (trains-held t company kind) 1
-              (more b law s ok c e (train-hand company) tt kind 1
-              (got (train-hand company) kind 0 1 (none-come company kind) (after-none _ 1 (hit company company (cond (eqb kind kind) 1 0) refl ∙ hit kind kind 1 refl)))
-              (gave (train-hand company) kind 0 0 (none-go company kind) (after-none _ 0 (miss company stack (cond (eqb kind kind) 1 0) apart))));
+                more-count (trains-held s company kind) (trains-held t company kind) 1
+                (more b law s ok c e (train-hand company) tt kind 1
+                (got (train-hand company) kind 0 1 (none-come company kind) (after-none _ 1 (hit company company (cond (eqb kind kind) 1 0) refl ∙ hit kind kind 1 refl)))
+                (gave (train-hand company) kind 0 0 (none-go company kind) (after-none _ 0 (miss company stack (cond (eqb kind kind) 1 0) apart))));
             stack-gives =
-              less-count (trains-held s stack kind) (trains-held t stack kind) 1
-              (less b law s ok c e (train-hand stack) tt kind 1
-              (got (train-hand stack) kind 0 0 (none-come stack kind) (after-none _ 0 (miss stack company (cond (eqb kind kind) 1 0) (λ k. apart (sym k)))))
-              (gave (train-hand stack) kind 0 1 (none-go stack kind) (after-none _ 1 (hit stack stack (cond (eqb kind kind) 1 0) refl ∙ hit kind kind 1 refl))));
+                less-count (trains-held s stack kind) (trains-held t stack kind) 1
+                (less b law s ok c e (train-hand stack) tt kind 1
+                (got (train-hand stack) kind 0 0 (none-come stack kind) (after-none _ 0 (miss stack company (cond (eqb kind kind) 1 0) (λ k. apart (sym k)))))
+                (gave (train-hand stack) kind 0 1 (none-go stack kind) (after-none _ 1 (hit stack stack (cond (eqb kind kind) 1 0) refl ∙ hit kind kind 1 refl))));
             other-kinds =
-              λ place other ne.
-              same-count (trains-held s place other) (trains-held t place other)
-              (same b law s ok c e (train-hand place) tt other
-              (got (train-hand place) other 0 0 (none-come place other) (after-none _ 0 (either-way (eqb place company) (cond (eqb other kind) 1 0) (miss other kind 1 ne))))
-              (gave (train-hand place) other 0 0 (none-go place other) (after-none _ 0 (either-way (eqb place stack) (cond (eqb other kind) 1 0) (miss other kind 1 ne)))));
+                λ place other ne.
+                same-count (trains-held s place other) (trains-held t place other)
+                (same b law s ok c e (train-hand place) tt other
+                (got (train-hand place) other 0 0 (none-come place other) (after-none _ 0 (either-way (eqb place company) (cond (eqb other kind) 1 0) (miss other kind 1 ne))))
+                (gave (train-hand place) other 0 0 (none-go place other) (after-none _ 0 (either-way (eqb place stack) (cond (eqb other kind) 1 0) (miss other kind 1 ne)))));
             other-hands =
-              λ place other nc ns.
-              same-count (trains-held s place other) (trains-held t place other)
-              (same b law s ok c e (train-hand place) tt other
-              (got (train-hand place) other 0 0 (none-come place other) (after-none _ 0 (miss place company (cond (eqb other kind) 1 0) nc)))
-              (gave (train-hand place) other 0 0 (none-go place other) (after-none _ 0 (miss place stack (cond (eqb other kind) 1 0) ns))));
+                λ place other nc ns.
+                same-count (trains-held s place other) (trains-held t place other)
+                (same b law s ok c e (train-hand place) tt other
+                (got (train-hand place) other 0 0 (none-come place other) (after-none _ 0 (miss place company (cond (eqb other kind) 1 0) nc)))
+                (gave (train-hand place) other 0 0 (none-go place other) (after-none _ 0 (miss place stack (cond (eqb other kind) 1 0) ns))));
           }
         where
           not-nought : (n : ℕ) → 1 ≤ n → n ≡ 0 → ⊥
@@ -120,22 +120,22 @@ module _ (b : Book) (law : Lawful b) (s : Books) (ok : Standing b s) (card compa
       let first = no-help s company (b .train-price kind) alone (director s company) in
       record {
         company-pays =
-          less b law s ok c e (cash-hand (treasury s company)) tt 0 (b .train-price kind)
-          (got [] first (cash-hand (treasury s company)) 0 0 0 refl (ended _ 0 (miss (treasury s company) bank (b .train-price kind) far)))
-          (none-and _ (b .train-price kind) (gave [] first (cash-hand (treasury s company)) 0 0 (b .train-price kind) refl (ended _ (b .train-price kind) (hit (treasury s company) (treasury s company) (b .train-price kind) refl))));
+            less b law s ok c e (cash-hand (treasury s company)) tt 0 (b .train-price kind)
+            (got [] first (cash-hand (treasury s company)) 0 0 0 refl (ended _ 0 (miss (treasury s company) bank (b .train-price kind) far)))
+            (none-and _ (b .train-price kind) (gave [] first (cash-hand (treasury s company)) 0 0 (b .train-price kind) refl (ended _ (b .train-price kind) (hit (treasury s company) (treasury s company) (b .train-price kind) refl))));
         bank-gets =
-          more b law s ok c e (cash-hand bank) tt 0 (b .train-price kind)
-          (none-and _ (b .train-price kind) (got [] first (cash-hand bank) 0 0 (b .train-price kind) refl (ended _ (b .train-price kind) (hit bank bank (b .train-price kind) refl))))
-          (gave [] first (cash-hand bank) 0 0 0 refl (ended _ 0 (miss bank (treasury s company) (b .train-price kind) (λ k. far (sym k)))));
+            more b law s ok c e (cash-hand bank) tt 0 (b .train-price kind)
+            (none-and _ (b .train-price kind) (got [] first (cash-hand bank) 0 0 (b .train-price kind) refl (ended _ (b .train-price kind) (hit bank bank (b .train-price kind) refl))))
+            (gave [] first (cash-hand bank) 0 0 0 refl (ended _ 0 (miss bank (treasury s company) (b .train-price kind) (λ k. far (sym k)))));
         other-cash =
-          λ place nb nt.
-          same b law s ok c e (cash-hand place) tt 0
-          (got [] first (cash-hand place) 0 0 0 refl (ended _ 0 (miss place bank (b .train-price kind) nb)))
-          (gave [] first (cash-hand place) 0 0 0 refl (ended _ 0 (miss place (treasury s company) (b .train-price kind) nt)));
+            λ place nb nt.
+            same b law s ok c e (cash-hand place) tt 0
+            (got [] first (cash-hand place) 0 0 0 refl (ended _ 0 (miss place bank (b .train-price kind) nb)))
+            (gave [] first (cash-hand place) 0 0 0 refl (ended _ 0 (miss place (treasury s company) (b .train-price kind) nt)));
         same-papers =
-          papers-same b law s ok c e
-          (λ other place tag. got [] first (paper-hand other place) tag 0 0 refl refl)
-          (λ other place tag. gave [] first (paper-hand other place) tag 0 0 refl refl);
+            papers-same b law s ok c e
+            (λ other place tag. got [] first (paper-hand other place) tag 0 0 refl refl)
+            (λ other place tag. gave [] first (paper-hand other place) tag 0 0 refl refl);
         train-moves = one-train [] first (λ place tag. refl) (λ place tag. refl);
       }
 
@@ -153,30 +153,30 @@ module _ (b : Book) (law : Lawful b) (s : Books) (ok : Standing b s) (card compa
       let no-company : seat ≢ treasury s company = λ k. seated seat (s .players) company (held .2) (there .0) k in
       record {
         director-pays =
-          the-lack (marks-at s seat) (marks-at t seat) (marks-at s (treasury s company)) gap (b .train-price kind)
-          (less b law s ok c e (cash-hand seat) tt 0 gap
-          (got H first (cash-hand seat) 0 0 0 (ended _ 0 (miss seat (treasury s company) gap no-company)) (ended _ 0 (miss seat bank (b .train-price kind) no-bank)))
-          (and-none _ gap (gave H first (cash-hand seat) 0 gap 0 (ended _ gap (hit seat seat gap refl)) (ended _ 0 (miss seat (treasury s company) (b .train-price kind) no-company)))))
-          filled;
+            the-lack (marks-at s seat) (marks-at t seat) (marks-at s (treasury s company)) gap (b .train-price kind)
+            (less b law s ok c e (cash-hand seat) tt 0 gap
+            (got H first (cash-hand seat) 0 0 0 (ended _ 0 (miss seat (treasury s company) gap no-company)) (ended _ 0 (miss seat bank (b .train-price kind) no-bank)))
+            (and-none _ gap (gave H first (cash-hand seat) 0 gap 0 (ended _ gap (hit seat seat gap refl)) (ended _ 0 (miss seat (treasury s company) (b .train-price kind) no-company)))))
+            filled;
         company-empty =
-          emptied (marks-at t (treasury s company)) (marks-at s (treasury s company)) gap (b .train-price kind)
-          (both b law s ok c e (cash-hand (treasury s company)) tt 0 gap (b .train-price kind)
-          (and-none _ gap (got H first (cash-hand (treasury s company)) 0 gap 0 (ended _ gap (hit (treasury s company) (treasury s company) gap refl)) (ended _ 0 (miss (treasury s company) bank (b .train-price kind) far))))
-          (none-and _ (b .train-price kind) (gave H first (cash-hand (treasury s company)) 0 0 (b .train-price kind) (ended _ 0 (miss (treasury s company) seat gap (λ k. no-company (sym k)))) (ended _ (b .train-price kind) (hit (treasury s company) (treasury s company) (b .train-price kind) refl)))))
-          filled;
+            emptied (marks-at t (treasury s company)) (marks-at s (treasury s company)) gap (b .train-price kind)
+            (both b law s ok c e (cash-hand (treasury s company)) tt 0 gap (b .train-price kind)
+            (and-none _ gap (got H first (cash-hand (treasury s company)) 0 gap 0 (ended _ gap (hit (treasury s company) (treasury s company) gap refl)) (ended _ 0 (miss (treasury s company) bank (b .train-price kind) far))))
+            (none-and _ (b .train-price kind) (gave H first (cash-hand (treasury s company)) 0 0 (b .train-price kind) (ended _ 0 (miss (treasury s company) seat gap (λ k. no-company (sym k)))) (ended _ (b .train-price kind) (hit (treasury s company) (treasury s company) (b .train-price kind) refl)))))
+            filled;
         bank-gets =
-          more b law s ok c e (cash-hand bank) tt 0 (b .train-price kind)
-          (none-and _ (b .train-price kind) (got H first (cash-hand bank) 0 0 (b .train-price kind) (ended _ 0 (miss bank (treasury s company) gap (λ k. far (sym k)))) (ended _ (b .train-price kind) (hit bank bank (b .train-price kind) refl))))
-          (gave H first (cash-hand bank) 0 0 0 (ended _ 0 (miss bank seat gap (λ k. no-bank (sym k)))) (ended _ 0 (miss bank (treasury s company) (b .train-price kind) (λ k. far (sym k)))));
+            more b law s ok c e (cash-hand bank) tt 0 (b .train-price kind)
+            (none-and _ (b .train-price kind) (got H first (cash-hand bank) 0 0 (b .train-price kind) (ended _ 0 (miss bank (treasury s company) gap (λ k. far (sym k)))) (ended _ (b .train-price kind) (hit bank bank (b .train-price kind) refl))))
+            (gave H first (cash-hand bank) 0 0 0 (ended _ 0 (miss bank seat gap (λ k. no-bank (sym k)))) (ended _ 0 (miss bank (treasury s company) (b .train-price kind) (λ k. far (sym k)))));
         other-cash =
-          λ place nb nt nd.
-          same b law s ok c e (cash-hand place) tt 0
-          (got H first (cash-hand place) 0 0 0 (ended _ 0 (miss place (treasury s company) gap nt)) (ended _ 0 (miss place bank (b .train-price kind) nb)))
-          (gave H first (cash-hand place) 0 0 0 (ended _ 0 (miss place seat gap nd)) (ended _ 0 (miss place (treasury s company) (b .train-price kind) nt)));
+            λ place nb nt nd.
+            same b law s ok c e (cash-hand place) tt 0
+            (got H first (cash-hand place) 0 0 0 (ended _ 0 (miss place (treasury s company) gap nt)) (ended _ 0 (miss place bank (b .train-price kind) nb)))
+            (gave H first (cash-hand place) 0 0 0 (ended _ 0 (miss place seat gap nd)) (ended _ 0 (miss place (treasury s company) (b .train-price kind) nt)));
         same-papers =
-          papers-same b law s ok c e
-          (λ other place tag. got H first (paper-hand other place) tag 0 0 refl refl)
-          (λ other place tag. gave H first (paper-hand other place) tag 0 0 refl refl);
+            papers-same b law s ok c e
+            (λ other place tag. got H first (paper-hand other place) tag 0 0 refl refl)
+            (λ other place tag. gave H first (paper-hand other place) tag 0 0 refl refl);
         train-moves = one-train H first (λ place tag. refl) (λ place tag. refl);
       }
     where

@@ -4,7 +4,7 @@ use mathlib.Core.Bool.{true, false}
 use mathlib.Core.List.{List}
 use mathlib.Core.Logic.{_≢_}
 use Prim.Native.Nat.{ℕ, _+_, _*_, _≤_}
-use lib.IntN.{ℤ, pos, _+ℤ_, _-ℤ_}
+use lib.IntN.{pos, _+ℤ_, _-ℤ_}
 use Rattle.std.specs.declared.option.Option.the-variants.{Some}
 use Rattle.std.specs.declared.result.Result.the-variants.{Ok}
 use Rattle.rulebook.specs.Book.{Book}
@@ -13,7 +13,7 @@ use Rattle.rulebook.specs.declared.split.Split.{Split}
 use Rattle.ledger.specs.Holdings.{bank, treasury, pool, seat-papers, stack, marks-at, tenths-at, seat-tenths, trains-held, director, price-of}
 use Rattle.ledger.specs.Lives.{answer, after}
 use Rattle.ledger.specs.Opening.{opened}
-use Rattle.ledger.specs.Operating.{payout-sum, company-share, needs-help, missing}
+use Rattle.ledger.specs.Operating.{payout-sum, needs-help}
 use Rattle.ledger.specs.Stock.{bought-size, payee, cost, floats, float-money}
 use Rattle.ledger.specs.declared.books.Books.{Books}
 use Rattle.ledger.specs.declared.call.Call.{Call}
