@@ -114,15 +114,18 @@ module _ (b : Book) (law : Lawful b) (s : Books) (ok : Standing b s) (card compa
           either-way true n e = e
           either-way false n e = refl
 
+  pub company-paid : help s company (b .train-price kind) (director s company) ≡ [] → marks-at (after b s (Train card company kind)) (treasury s company) ≡ marks-at s (treasury s company) -ℤ pos (b .train-price kind)
+  company-paid first =
+      less b law s ok (Train card company kind) e (cash-hand (treasury s company)) tt 0 (b .train-price kind)
+      (got [] first (cash-hand (treasury s company)) 0 0 0 refl (ended _ 0 (miss (treasury s company) bank (b .train-price kind) far)))
+      (none-and _ (b .train-price kind) (gave [] first (cash-hand (treasury s company)) 0 0 (b .train-price kind) refl (ended _ (b .train-price kind) (hit (treasury s company) (treasury s company) (b .train-price kind) refl))))
+
   pub train-alone-leaves : needs-help s company (b .train-price kind) ≡ false → Train-alone-leaves s (after b s (Train card company kind)) company kind (b .train-price kind)
   train-alone-leaves alone =
       let c = Train card company kind in
       let first = no-help s company (b .train-price kind) alone (director s company) in
       record {
-        company-pays =
-            less b law s ok c e (cash-hand (treasury s company)) tt 0 (b .train-price kind)
-            (got [] first (cash-hand (treasury s company)) 0 0 0 refl (ended _ 0 (miss (treasury s company) bank (b .train-price kind) far)))
-            (none-and _ (b .train-price kind) (gave [] first (cash-hand (treasury s company)) 0 0 (b .train-price kind) refl (ended _ (b .train-price kind) (hit (treasury s company) (treasury s company) (b .train-price kind) refl))));
+        company-pays = company-paid first;
         bank-gets =
             more b law s ok c e (cash-hand bank) tt 0 (b .train-price kind)
             (none-and _ (b .train-price kind) (got [] first (cash-hand bank) 0 0 (b .train-price kind) refl (ended _ (b .train-price kind) (hit bank bank (b .train-price kind) refl))))

@@ -42,4 +42,5 @@ pub mod LeftTrains
 pub mod LeftSales
 pub mod LeftPurchases
 pub mod LeftTenths
+pub mod LeftHelp
 pub mod Left

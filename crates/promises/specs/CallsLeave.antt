@@ -123,6 +123,8 @@ pub record Leaves (b : Book) (s : Books) : Type 0 where
   pub bill : (card company amount : ℕ) → answer b s (Bill card company amount) ≡ Ok tt → Bill-leaves s (after b s (Bill card company amount)) company amount
   pub payout : (card company mode revenue : ℕ) → answer b s (Payout card company mode revenue) ≡ Ok tt → (split : Split) → b .split mode revenue ≡ Some split → Payout-leaves s (after b s (Payout card company mode revenue)) company split
   pub train-alone : (card company kind : ℕ) → answer b s (Train card company kind) ≡ Ok tt → needs-help s company (b .train-price kind) ≡ false → Train-alone-leaves s (after b s (Train card company kind)) company kind (b .train-price kind)
+  -- where help is needed, there is a director
+  pub train-helper : (card company kind : ℕ) → answer b s (Train card company kind) ≡ Ok tt → needs-help s company (b .train-price kind) ≡ true → (seat : ℕ) × (director s company ≡ Some seat)
   pub train-helped : (card company kind : ℕ) → answer b s (Train card company kind) ≡ Ok tt → needs-help s company (b .train-price kind) ≡ true → (seat : ℕ) → director s company ≡ Some seat
       → Train-helped-leaves s (after b s (Train card company kind)) company kind (b .train-price kind) seat
   pub sale : (card seat company tenths : ℕ) → answer b s (Sell card seat company tenths) ≡ Ok tt → Sale-leaves s (after b s (Sell card seat company tenths)) seat company (tenths * price-of b s company)
