@@ -185,14 +185,14 @@ in-book-then b company e =
     let d = and-parts (leb 1 company) (leb company (b .companies)) (not-false _ e) in
     (leb-true 1 company (d .0), leb-true company (b .companies) (d .1))
 
-record May-sell (b : Book) (s : Books) (seat company tenths : ℕ) : Type 0 where
+pub record May-sell (b : Book) (s : Books) (seat company tenths : ℕ) : Type 0 where
   pub s1 : 1 ≤ seat
   pub sn : seat ≤ s .players
   pub in-book : Between 1 (b .companies) company
   pub held : tenths ≤ seat-tenths s company seat
   pub unneeded : director-needed s seat company tenths ≡ false
 
-may-sell : (b : Book) (s : Books) (card seat company tenths : ℕ) → sell-answer b s card seat company tenths ≡ Ok tt → May-sell b s seat company tenths
+pub may-sell : (b : Book) (s : Books) (card seat company tenths : ℕ) → sell-answer b s card seat company tenths ≡ Ok tt → May-sell b s seat company tenths
 may-sell b s card seat company tenths e =
     let turn = both-granted (on-stock-turn s card seat) _ e in
     let t = on-turn s card seat (turn .0) in
@@ -249,7 +249,7 @@ module _ (b : Book) (lawful : Lawful b) (s : Books) (ok : Sound b s) (led : Led 
   abbrev Move : Books → Books → ℕ → ℕ → Type 0
   Move t u x y = Handed (λ p. tens t company p) (λ p. heads t company p) (λ p. tens u company p) (λ p. heads u company p) (seat + 1) 1 x y
 
-  rest-moves : (t : Books) → Sound b t → (x : ℕ) → min tenths (sized (λ _. 1) 1 8 (papers-at t company (seat-papers seat) .certificates)) ≡ x → Move t (all-crossed t (rest t)) x 0
+  pub rest-moves : (t : Books) → Sound b t → (x : ℕ) → min tenths (sized (λ _. 1) 1 8 (papers-at t company (seat-papers seat) .certificates)) ≡ x → Move t (all-crossed t (rest t)) x 0
   rest-moves t sound x e =
       let p = ok .seats in
       let sn = may .sn in

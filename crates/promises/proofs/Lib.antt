@@ -36,3 +36,11 @@ pub mod Limits
 pub mod TurnSeats
 pub mod MovesOn
 pub mod Directed
+pub mod LeftParts
+pub mod LeftPayouts
+pub mod LeftTrains
+pub mod LeftSales
+pub mod LeftPurchases
+pub mod LeftTenths
+pub mod LeftHelp
+pub mod Left

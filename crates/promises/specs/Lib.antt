@@ -3,3 +3,4 @@ pub mod Accounts
 pub mod Lives
 pub mod Promises
 pub mod NeverSticks
+pub mod CallsLeave
