@@ -23,10 +23,10 @@ use Rattle.ledger.specs.Opening.{opened}
 use Rattle.ledger.specs.declared.books.Books.{Books}
 use Rattle.ledger.specs.declared.call.Call.{Call}
 use Rattle.ledger.specs.declared.company.Company.{Company}
-use Rattle.promises.specs.Lives.{lived, Equal-hands}
+use Rattle.promises.specs.Lives.{lived, Equal-hands, Equal-nets}
 use Rattle.promises.proofs.Whole.{all-lives-stand}
 use Rattle.table.specs.Bounds.{Bounded}
-use Rattle.table.specs.Comparing.{Compared}
+use Rattle.table.specs.Comparing.{Compared, Tables-compared}
 use Rattle.table.proofs.Filled.{opening-granted}
 
 pub yes : {P : Type 0} → P → Decides true P
@@ -148,3 +148,16 @@ module _ (b : Book) (law : Lawful b) (players cash : ℕ) (o : Option ℕ) (aske
         moments = λ i j. all-lives-stand b law players cash granted (reverse (take i one)) (reverse (take j other));
         moments-turned = λ i j. all-lives-stand b law players cash granted (reverse (take j other)) (reverse (take i one));
       }
+
+pub tables-compared : (b d : Book) → Lawful b → (s t : Books) (r : Bool) → Decides r (Equal-hands s t) → Tables-compared b d s t r
+tables-compared b d law s t r told =
+    record {
+      hands = told;
+      nets = λ players cash one other same opens e f.
+          let first = opened b players cash in
+          let g : t ≡ lived b first other = f ∙ ap (λ (k : Book). lived k (opened k players cash) other) same in
+          let tells = all-lives-stand b law players cash opens one other .hands-tell-nets in
+          let here : Decides r (Equal-hands (lived b first one) (lived b first other)) =
+          subst (λ (z : Books). Decides r (Equal-hands z (lived b first other))) e (subst (λ (z : Books). Decides r (Equal-hands s z)) g told) in
+          (λ yes-told. tells .0 (here .0 yes-told), λ nets. here .1 (tells .1 nets));
+    }
