@@ -20,7 +20,7 @@ fn marks_in(row: &[Cash], place: usize) -> i32
     }
 }
 
-fn papers_in(row: &[Papers], place: usize) -> Papers
+pub fn papers_in(row: &[Papers], place: usize) -> Papers
     ensures { λ r. ⌜ r ≡ getD (now (row .entry)) place no-papers ⌝ }
 {
     if place < row.len() {

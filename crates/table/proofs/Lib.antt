@@ -4,3 +4,4 @@ pub mod Granted
 pub mod Ranges
 pub mod Filled
 pub mod Led
+pub mod Compared

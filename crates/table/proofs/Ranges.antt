@@ -84,9 +84,12 @@ module _ (b : Book) (law : Lawful b) where
     either-way (Ok x) t made = made refl
     either-way (Err why) t made = ok
 
-    pub stays-bounded : (c : Call) → Bounded (after b s c)
+    stays-bounded : (c : Call) → Bounded (after b s c)
     stays-bounded c = either-way (answer b s c) (granted-after b s c) (granted-ranges c)
+
+    pub kept-bounded : (c : Call) (t : Books) → t ≡ after b s c → Bounded t
+    kept-bounded c t e = subst Bounded (sym e) (stays-bounded c)
 
     -- as a table keeps them
     pub kept-ranges : (c : Call) (t : Books) → t ≡ after b s c → (t .players ≤ 6) × ((t .round ≤ 9999) × (((n : ℕ) → t .operating .company ≡ Some n → n ≤ 8) × Unit {0}))
-    kept-ranges c t e = let h = subst Bounded (sym e) (stays-bounded c) in (h .seated, (h .counted, (h .numbered, tt)))
+    kept-ranges c t e = let h = kept-bounded c t e in (h .seated, (h .counted, (h .numbered, tt)))

@@ -1,6 +1,7 @@
 // The calls of a table.
 mod calls;
 mod cards;
+mod comparing;
 mod holdings;
 mod judging;
 mod life;

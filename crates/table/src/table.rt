@@ -4,6 +4,7 @@ ghost use Rattle.std.specs.declared.option.Option.the-variants.{Some};
 use ledger::books::Books;
 use rulebook::book::RuleBook;
 
+mod comparing;
 mod opening;
 mod operating_round;
 mod stock_round;

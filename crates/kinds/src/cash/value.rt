@@ -31,4 +31,10 @@ impl Cash {
     {
         self.marks
     }
+
+    pub fn floor(&self) -> CashFloor
+        ensures { λ r. ⌜ r ≡ now (self .entry) .floor ⌝ }
+    {
+        self.floor
+    }
 }
