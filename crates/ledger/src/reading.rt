@@ -20,11 +20,11 @@ fn marks_in(row: &[Cash], place: usize) -> i32
     }
 }
 
-pub fn papers_in(row: &[Papers], place: usize) -> Papers
-    ensures { λ r. ⌜ r ≡ getD (now (row .entry)) place no-papers ⌝ }
+pub fn papers_in(hands: &[Papers], place: usize) -> Papers
+    ensures { λ r. ⌜ r ≡ getD (now (hands .entry)) place no-papers ⌝ }
 {
-    if place < row.len() {
-        row[place]
+    if place < hands.len() {
+        hands[place]
     } else {
         Papers::none()
     }
