@@ -1,4 +1,6 @@
 // Plays two game files and says, hand by hand, where the two tables differ, or that they are equal: compare A B.
+#![tactic(auto)]
+
 use anyhow::anyhow;
 use catalogue::books::PrintedBook;
 use faults::file::FileFault;

@@ -1,4 +1,6 @@
 // Two tables side by side: are they equal in every hand?
+#![tactic(auto)]
+
 ghost use Rattle.std.specs.Prelude.{◌≡◌, ℕ, ◌<◌, ◌≤◌, length, get_or, Decides, slice_index_or};
 ghost use Rattle.ledger.specs.Holdings.{no_trains, no_cash, no_company};
 ghost use Rattle.kinds.specs.Papers.{no_papers};

@@ -1,4 +1,6 @@
 // What the console says of a game file: the statement of the game that it plays, or the line of its first fault.
+#![tactic(auto)]
+
 ghost use Rattle.std.specs.Prelude.{◌≡◌};
 ghost use Rattle.statement_text.specs.Buffer.{handed_over};
 ghost use Rattle.console.specs.Console.{console_text, length_or_nought};

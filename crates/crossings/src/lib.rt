@@ -1,4 +1,6 @@
 // What crosses in a call, as a list: who gives what to whom, in order.
+#![tactic(auto)]
+
 pub mod crossing;
 mod operating_calls;
 mod stock_calls;

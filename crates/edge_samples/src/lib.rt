@@ -1,4 +1,6 @@
 // The printed statement and the samples at the edges of the rules, together.
+#![tactic(auto)]
+
 ghost use Rattle.edge_samples.specs.Samples.{EdgeSamples};
 
 // Stands for its contract alone.

@@ -1,4 +1,6 @@
 // The calls that the records of a game file ask for, each with the card of its round.
+#![tactic(auto)]
+
 ghost use Rattle.std.specs.Prelude.{◌≡◌, ◌++◌, IfOk, OnOk};
 ghost use Rattle.entries.specs.Entry.{view};
 ghost use Rattle.replay.specs.Calls.{call_of};

@@ -1,5 +1,7 @@
 // Plays the first stock round, the operating round after it and the reopening, under both printed books, and prints
 // what each call was answered.
+#![tactic(auto)]
+
 use faults::table::TableFault;
 use printed::berg::Berg;
 use printed::north::North;

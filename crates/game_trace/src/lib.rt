@@ -1,4 +1,6 @@
 // A game file followed record by record, as text.
+#![tactic(auto)]
+
 mod crossed;
 mod starting;
 mod steps;

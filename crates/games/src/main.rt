@@ -1,4 +1,6 @@
 // Plays each game that index.txt names and compares what is printed for it with what is expected, byte by byte.
+#![tactic(auto)]
+
 use console::write_text;
 use std::{fs, io};
 

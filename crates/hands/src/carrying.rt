@@ -11,7 +11,7 @@ pub fn can_carry<H: Hand>(
     receiver: usize,
     load: H::Load,
 ) -> Result<(), CarryFault>
-    ensures { result ≡ (carried kind row.now giver receiver load).0 }
+    ensures { result ≡ (carried H.kind row.now giver receiver load).0 }
 {
     if giver >= row.len() || receiver >= row.len() {
         return Err(CarryFault {
@@ -51,7 +51,7 @@ pub fn carry<H: Hand>(
     receiver: usize,
     load: H::Load,
 ) -> Result<(), CarryFault>
-    ensures { (result, row.new) ≡ carried kind row.old giver receiver load }
+    ensures { (result, row.new) ≡ carried H.kind row.old giver receiver load }
 {
     can_carry(row, giver, receiver, load)?;
     row[giver].give(load);

@@ -14,7 +14,7 @@ pub fn carry_tallied<H: Tallied>(
     load: H::Load,
 ) -> Result<(), CarryFault>
     ensures outcome { (result, row.new) ≡ carried H.Hand.kind row.old giver receiver load }
-    ensures totals { TotalsKept tallies row.old row.new }
+    ensures totals { TotalsKept H.tallies row.old row.new }
     ensures elsewhere { ElsewhereSame giver receiver row.old row.new }
 {
     carry(row, giver, receiver, load)

@@ -1,4 +1,6 @@
 // Who holds what, and who comes next: what the rules ask of the books.
+#![tactic(auto)]
+
 ghost use Rattle.std.specs.Prelude.{◌≡◌};
 ghost use Rattle.ledger.specs.Holdings.{next_seat, holds_director, seat_tenths, director, largest_other, certificates_held, lowest_kind, has_train, waiting, price_of, better, next_company};
 

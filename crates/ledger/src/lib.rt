@@ -1,4 +1,6 @@
 // The books of a table, and the rules of its calls as definitions.
+#![tactic(auto)]
+
 pub mod books;
 pub mod call;
 pub mod certificates;

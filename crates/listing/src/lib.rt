@@ -1,4 +1,6 @@
 // A game file as text: a line for each record, to the file's end or its first fault.
+#![tactic(auto)]
+
 mod lines;
 mod whole;
 

@@ -1,4 +1,6 @@
 // Prints the bank and seat lines after the opening cash of a printed book is dealt: opening BOOK PLAYERS.
+#![tactic(auto)]
+
 use anyhow::anyhow;
 use dealing::listing::opening_text;
 use std::io::Write;

@@ -1,4 +1,6 @@
 // What stands for every life of a table, over every lawful rule book.
+#![tactic(auto)]
+
 ghost use Rattle.promises.specs.CallsLeave.{CallsLeave};
 ghost use Rattle.promises.specs.Carried.{CallsCarry};
 ghost use Rattle.promises.specs.Conservation.{CallsConserve};

@@ -1,4 +1,6 @@
 // May a seat buy, and what does the purchase cost and bring about?
+#![tactic(auto)]
+
 ghost use Rattle.std.specs.Prelude.{◌≡◌, ◌+◌, not, ◌&&◌, ◌||◌, pos, ◌+ℤ◌, ◌-ℤ◌, nat_lt};
 ghost use Rattle.ledger.specs.Holdings.{seat_tenths, certificates_held, company_of};
 ghost use Rattle.ledger.specs.Answers.{below_floor};

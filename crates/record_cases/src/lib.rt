@@ -1,4 +1,6 @@
 // Game files at the edges: proved of the definitions that the contracts cite, and run as tests.
+#![tactic(auto)]
+
 ghost use Rattle.record_cases.specs.Samples.{Samples};
 
 #[cfg(test)]

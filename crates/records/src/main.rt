@@ -1,4 +1,6 @@
 // Lists the records of a game file on standard input.
+#![tactic(auto)]
+
 use listing::listing;
 use std::io;
 use std::io::{Read, Write};

@@ -1,4 +1,6 @@
 // Replay: the records of a game file as calls of a table.
+#![tactic(auto)]
+
 pub mod card;
 pub mod game;
 pub mod playing;

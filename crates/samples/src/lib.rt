@@ -1,4 +1,6 @@
 // Samples at the edges of the rules: proved of the definitions that the contracts cite, and run as tests.
+#![tactic(auto)]
+
 ghost use Rattle.samples.specs.Samples.{Samples};
 
 #[cfg(test)]

@@ -1,4 +1,6 @@
 // The books of a table when it is opened.
+#![tactic(auto)]
+
 ghost use Rattle.std.specs.Prelude.{◌≡◌, ◌*◌, ◌≤◌, ◌∷◌, replicate};
 ghost use Rattle.ledger.specs.Holdings.{no_trains};
 ghost use Rattle.ledger.specs.Opening.{opening_cash, stack_of, untouched, opening_companies, opened, open_answer};

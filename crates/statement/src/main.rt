@@ -1,4 +1,6 @@
 // Prints the statement of the game file on standard input, or the line of its first fault.
+#![tactic(auto)]
+
 use console::write_text;
 use std::io;
 use std::io::{Read, Write};

@@ -1,4 +1,6 @@
 // The statement of a table as text in a lent buffer, and the line that tells a fault.
+#![tactic(auto)]
+
 ghost use Rattle.std.specs.Prelude.{◌≡◌};
 ghost use Rattle.text.specs.Lines.{refused_at_line};
 ghost use Rattle.faults.specs.Numbers.{file_number};

@@ -1,4 +1,6 @@
 // The table: its cards, open, the nine calls, and the comparison of lives.
+#![tactic(auto)]
+
 mod calls;
 pub mod cards;
 pub mod life;

@@ -1,4 +1,5 @@
 // Text of a fixed capacity by value, and the lines of a statement.
+#![tactic(auto)]
 
 mod appending;
 mod lines;

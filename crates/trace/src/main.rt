@@ -1,4 +1,6 @@
 // Follows a game file on standard input, record by record.
+#![tactic(auto)]
+
 use game_trace::trace;
 use std::io;
 use std::io::{Read, Write};

@@ -1,4 +1,6 @@
 // A game told line by line: what crosses, and why a record is refused.
+#![tactic(auto)]
+
 mod lines;
 mod places;
 mod refusals;

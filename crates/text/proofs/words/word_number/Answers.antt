@@ -11,15 +11,15 @@ returns-then-digit-lt48 c =
     let out : (get_or w i 0 < 48) ⊎ (57 < get_or w i 0) =
     elim c.then-digit-lt48.branch [ then-digit-lt48-via-then-digit-lt48 v ↦ inl v.if-digit-lt48.true | then-digit-lt48-via-else-digit-lt48+then-digit-gt57 v ↦ inr v.if-digit-gt57.true ]
     in
-    sym (not_empty w c.if-is-empty.ensures ∙ c.loop-digit.invariant ∙ stopped w c.loop-digit.n i c.loop-digit-test.true out)
+    sym (not_empty w c.if-is_empty.ensures ∙ c.loop-digit.invariant ∙ stopped w c.loop-digit.n i c.loop-digit-test.true out)
 
 pub loop-digit-preserved : goal.loop-digit-preserved
 loop-digit-preserved c =
     let w = c.args.word.now in
     let i = c.loop-digit.digit-index in
     let n = c.loop-digit.n in
-    let next : min 4294967295 (n * 10 + (get_or w i 0 - 48)) ≡ c.saturating-add-n.result =
-    omega (arith, c.saturating-mul.ensures, c.from.ensures, c.saturating-add-n.ensures)
+    let next : min 4294967295 (n * 10 + (get_or w i 0 - 48)) ≡ c.saturating_add-n.result =
+    omega (arith, c.saturating_mul.ensures, c.from.ensures, c.saturating_add-n.ensures)
     in
     c.loop-digit.invariant
     ∙ went_on w n i c.loop-digit-test.true c.if-digit-lt48.false c.if-digit-gt57.false
@@ -27,4 +27,4 @@ loop-digit-preserved c =
 
 pub returns : goal.returns
 returns c =
-    sym (not_empty c.args.word.now c.if-is-empty.ensures ∙ c.loop-digit.invariant ∙ ended c.args.word.now c.loop-digit.n c.loop-digit.digit-index c.loop-digit-test.false)
+    sym (not_empty c.args.word.now c.if-is_empty.ensures ∙ c.loop-digit.invariant ∙ ended c.args.word.now c.loop-digit.n c.loop-digit.digit-index c.loop-digit-test.false)

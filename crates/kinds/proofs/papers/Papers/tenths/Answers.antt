@@ -4,8 +4,8 @@ use lib.Count.{ones-le}
 use Rattle.kinds.specs.Certificates.{counted, tenths_counted}
 use Rattle.kinds.proofs.papers.Papers.tenths.Goals as goal
 
-pub overflow-add-result : goal.overflow-add-result
-overflow-add-result c =
+pub overflow_add-result : goal.overflow_add-result
+overflow_add-result c =
     let held = c.args.self.now.certificates in
     let few = ones-le 9 held c.args.self.now.nine in
     let same = counted c.args.self.now in

@@ -13,7 +13,7 @@ returns t c =
     let all = shown c.push.new.self in
     elim c.if-n-ge10.branch [
       | then-n-ge10 w ↦
-          added_then start front all (decimal (n / 10)) ((48 + n % 10) ∷ []) (ap shown w.self-is ∙ w.push-wide.ensures) c.push.ensures
+          added_then start front all (decimal (n / 10)) ((48 + n % 10) ∷ []) (ap shown w.self-is ∙ w.push_wide.ensures) c.push.ensures
           ∙ ap (added start) (sym (decimal_step n (omega arith) (omega arith)))
       | else-n-ge10 w ↦
           let whole : n % 10 ≡ n = omega arith in

@@ -7,5 +7,5 @@ pub returns : goal.returns
 returns c =
     let start = shown c.args.self.now in
     let blank = shown c.push.new.self in
-    let all = shown c.push-wide.new.self in
-    added_then start blank all (codes " ") (decimal c.args.n) c.push.ensures c.push-wide.ensures
+    let all = shown c.push_wide.new.self in
+    added_then start blank all (codes " ") (decimal c.args.n) c.push.ensures c.push_wide.ensures

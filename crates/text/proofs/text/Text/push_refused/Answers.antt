@@ -6,7 +6,7 @@ use Rattle.text.proofs.text.Text.push_refused.Goals as goal
 pub returns : goal.returns
 returns c =
     let start = shown c.args.self.now in
-    let word = shown c.push-bytes.new.self in
-    let all = shown c.push-number.new.self in
-    let digits = c.push-number.ensures ∙ ap (λ n. added word (decimal n)) c.from.ensures in
-    added_then start word all (codes "refused ") (decimal c.args.number) c.push-bytes.ensures digits
+    let word = shown c.push_bytes.new.self in
+    let all = shown c.push_number.new.self in
+    let digits = c.push_number.ensures ∙ ap (λ n. added word (decimal n)) c.from.ensures in
+    added_then start word all (codes "refused ") (decimal c.args.number) c.push_bytes.ensures digits

@@ -13,8 +13,8 @@ returns c =
     let same : to_z w32 (of_z w32 z) ≡ z = to_z-of_z w32 z c.ranges.z in
     let start = shown c.args.self.now in
     let sign = shown c.if-z-lt0.self in
-    let all = shown c.push-number.new.self in
-    let digits = c.push-number.ensures ∙ ap (λ n. added sign (decimal n)) (c.unsigned-abs.ensures.value ∙ ap nat_abs same) in
+    let all = shown c.push_number.new.self in
+    let digits = c.push_number.ensures ∙ ap (λ n. added sign (decimal n)) (c.unsigned_abs.ensures.value ∙ ap nat_abs same) in
     elim c.if-z-lt0.branch [
       | then-z-lt0 w ↦
           let below : lt_z z (pos 0) ≡ true = ap (λ y. lt_z y (pos 0)) (sym same) ∙ w.if-z-lt0.true in

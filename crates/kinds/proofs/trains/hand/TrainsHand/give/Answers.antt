@@ -2,5 +2,5 @@ use Rattle.std.proofs.Common.{refl}
 use Rattle.kinds.specs.Rolling.{is_given}
 use Rattle.kinds.proofs.trains.hand.TrainsHand.give.Goals as goal
 
-pub returns-then-can-give : goal.returns-then-can-give
-returns-then-can-give c = is_given c.args.self.now _ c.args.load c.if-can-give.ensures refl
+pub returns-then-can_give : goal.returns-then-can_give
+returns-then-can_give c = is_given c.args.self.now _ c.args.load c.if-can_give.ensures refl

@@ -2,5 +2,5 @@ use Rattle.std.proofs.Common.{refl}
 use Rattle.kinds.specs.Rolling.{is_taken}
 use Rattle.kinds.proofs.trains.hand.TrainsHand.take.Goals as goal
 
-pub returns-then-can-take : goal.returns-then-can-take
-returns-then-can-take c = is_taken c.args.self.now _ c.args.load c.if-can-take.ensures refl
+pub returns-then-can_take : goal.returns-then-can_take
+returns-then-can_take c = is_taken c.args.self.now _ c.args.load c.if-can_take.ensures refl
