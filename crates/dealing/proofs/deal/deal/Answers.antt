@@ -10,18 +10,18 @@ seated : (b : Book) → Lawful b → (players marks : ℕ) → b.opening players
 seated b law players marks e =
     ⊎_elim (λ lt. omega arith) (λ le. let n = law.opening_none players (inr le) in let z : ◌≡◌ {A = ℕ} 0 1 = cc in absurd (omega arith)) (cases_lt players 7)
 
-pub dealt-cash-cash-requires : goal.dealt-cash-cash-requires
-dealt-cash-cash-requires g c =
+pub dealt_cash-cash-requires : goal.dealt_cash-cash-requires
+dealt_cash-cash-requires g c =
     let law = g.met.B.RuleBook.lawful c.args.book.now in
     let e = sym c.opening_cash.ensures ∙ c.in-Some.is in
     record {
       seated = seated _ law c.args.players c.in-Some.marks e;
-      enough = let h = law.opening_fits c.args.players c.in-Some.marks e in let t = c.bank-total.ensures in omega (arith, h, t);
+      enough = let h = law.opening_fits c.args.players c.in-Some.marks e in let t = c.bank_total.ensures in omega (arith, h, t);
     }
 
-pub invariant-of-result : goal.invariant-of-result
-invariant-of-result g c =
+pub invariant_of-result : goal.invariant_of-result
+invariant_of-result g c =
     let law = g.met.B.RuleBook.lawful c.args.book.now in
     let e = sym c.opening_cash.ensures ∙ c.in-Some.is in
     let six = seated _ law c.args.players c.in-Some.marks e in
-    (six, (seven c.bank-total.result c.args.players c.in-Some.marks c.dealt-cash-cash.result six c.dealt-cash-cash.ensures, tt))
+    (six, (seven c.bank_total.result c.args.players c.in-Some.marks c.dealt_cash-cash.result six c.dealt_cash-cash.ensures, tt))

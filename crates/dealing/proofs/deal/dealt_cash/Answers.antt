@@ -6,7 +6,7 @@ use Rattle.dealing.proofs.deal.dealt_cash.Goals as goal
 pub unreachable-requires : goal.unreachable-requires
 unreachable-requires c =
     let d = seat_dealt c.args.bank c.args.players c.loop-seat.seat c.args.marks c.from.result c.requires.seated c.requires.enough (omega arith) c.loop-seat-test.true c.from.ensures c.loop-seat.row c.carry.new.row c.carry.result c.loop-seat.invariant.0 c.carry.ensures in
-    false≢true (sym (c.if-is-err.ensures.value ∙ ap is_err d.0))
+    false≢true (sym (c.if-is_err.ensures.value ∙ ap is_err d.0))
 
 pub loop-seat-init : goal.loop-seat-init
 loop-seat-init c =

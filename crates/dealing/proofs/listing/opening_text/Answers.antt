@@ -20,7 +20,7 @@ returns-in-Ok c =
 pub returns-in-Err : goal.returns-in-Err
 returns-in-Err c =
     let n = c.number.result in
-    c.push-refused-line.ensures
+    c.push_refused_line.ensures
     ∙ ap (λ t. added t (refused_line n)) c.empty-text.ensures
     ∙ added_fits [] (refused_line n) (omega (arith, refused_line_bound n (omega arith)))
     ∙ ap refused_line c.number.ensures

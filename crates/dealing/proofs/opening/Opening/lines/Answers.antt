@@ -11,7 +11,7 @@ use Rattle.dealing.proofs.opening.Opening.lines.Goals as goal
 pub loop-seat-init : goal.loop-seat-init
 loop-seat-init c =
     let row = c.args.self.now.cash in
-    let h = c.push-bank-line.ensures in
+    let h = c.push_bank_line.ensures in
     let first = bank_first row c.index-self-0.result (omega (arith, c.args.self.now.wide)) in
     h
     ∙ ap (λ m. added (shown c.empty-text.result) (bank_line m)) (to_z-of_z w32 c.marks.result (record { sfits = c.marks.type-inv }))
@@ -24,6 +24,6 @@ loop-seat-preserved c =
     let d = c.index-self-seat.result in
     let next = seat_next o.cash d k (omega (arith, o.wide, o.seated)) in
     let piece = seat_line (k + 1) (get_or o.cash (k + 1) d).marks 0 in
-    let pushed : shown c.push-seat-line.new.self ≡ added (shown c.loop-seat.text) piece = c.push-seat-line.ensures ∙ ap (λ m. added (shown c.loop-seat.text) (seat_line (k + 1) m 0)) (to_z-of_z w32 c.marks-in-loop-seat.result (record { sfits = c.marks-in-loop-seat.type-inv })) ∙ ap (λ m. added (shown c.loop-seat.text) (seat_line (k + 1) m 0)) c.marks-in-loop-seat.ensures in
-    added_then [] (shown c.loop-seat.text) (shown c.push-seat-line.new.self) (listed k (map hand_view o.cash)) piece c.loop-seat.invariant pushed
+    let pushed : shown c.push_seat_line.new.self ≡ added (shown c.loop-seat.text) piece = c.push_seat_line.ensures ∙ ap (λ m. added (shown c.loop-seat.text) (seat_line (k + 1) m 0)) (to_z-of_z w32 c.marks-in-loop-seat.result (record { sfits = c.marks-in-loop-seat.type-inv })) ∙ ap (λ m. added (shown c.loop-seat.text) (seat_line (k + 1) m 0)) c.marks-in-loop-seat.ensures in
+    added_then [] (shown c.loop-seat.text) (shown c.push_seat_line.new.self) (listed k (map hand_view o.cash)) piece c.loop-seat.invariant pushed
     ∙ ap (added []) (sym next)
