@@ -65,7 +65,7 @@ pub(crate) fn try_train<B: RuleBook>(
     company: u8,
     kind: u8,
 ) -> Result<(), AllocError>
-    ensures { OnOk result (Noted trial.old trial.new (train_crossings (meaning book.now) trial.old.books company kind)) }
+    ensures { OnOk result (Noted trial.old trial.new (train_crossings (B.meaning book.now) trial.old.books company kind)) }
 {
     let price = book.train_price(kind);
     let treasury = trial.books.players as usize + company as usize;

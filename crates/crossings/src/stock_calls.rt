@@ -46,7 +46,7 @@ pub(crate) fn try_sale<B: RuleBook>(
     company: u8,
     tenths: u8,
 ) -> Result<(), AllocError>
-    ensures { OnOk result (Noted trial.old trial.new (sell_crossings (meaning book.now) trial.old.books seat company tenths)) }
+    ensures { OnOk result (Noted trial.old trial.new (sell_crossings (B.meaning book.now) trial.old.books seat company tenths)) }
 {
     let marks = sale_marks(book, &trial.books, company, tenths);
     exchange_before_sale(trial, seat, company, tenths)?;
@@ -66,7 +66,7 @@ fn pay_and_receive<B: RuleBook>(
     source: u8,
     space: u16,
 ) -> Result<(), AllocError>
-    ensures { OnOk result (Noted trial.old trial.new (purchase (meaning book.now) trial.old.books seat company source space)) }
+    ensures { OnOk result (Noted trial.old trial.new (purchase (B.meaning book.now) trial.old.books seat company source space)) }
 {
     let marks = cost_of(book, &trial.books, company, source, space);
     let payee = payee_of(book, &trial.books, company, source);
@@ -107,7 +107,7 @@ pub(crate) fn try_purchase<B: RuleBook>(
     source: u8,
     space: u16,
 ) -> Result<(), AllocError>
-    ensures { OnOk result (Noted trial.old trial.new (buy_crossings (meaning book.now) trial.old.books seat company source space)) }
+    ensures { OnOk result (Noted trial.old trial.new (buy_crossings (B.meaning book.now) trial.old.books seat company source space)) }
 {
     let floating = is_floating(book, &trial.books, company, source);
     let money = float_payment(book, &trial.books, company, source, space);

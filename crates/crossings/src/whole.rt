@@ -21,7 +21,7 @@ use std::alloc::{AllocError, Global};
 
 // What a call would be answered, with nothing moved.
 pub fn answer_to<B: RuleBook>(book: &B, books: &Books, call: Call) -> Result<(), TableRefusal>
-    ensures { result ≡ answer (meaning book.now) books.now call }
+    ensures { result ≡ answer (B.meaning book.now) books.now call }
 {
     match call {
         Call::Sell {
@@ -62,7 +62,7 @@ pub fn answer_to<B: RuleBook>(book: &B, books: &Books, call: Call) -> Result<(),
 
 // Only sales, purchases, bills, payouts and trains move anything.
 fn try_call<B: RuleBook>(trial: &mut Trial, book: &B, call: Call) -> Result<(), AllocError>
-    ensures { OnOk result (Noted trial.old trial.new (crossings_of (meaning book.now) trial.old.books call)) }
+    ensures { OnOk result (Noted trial.old trial.new (crossings_of (B.meaning book.now) trial.old.books call)) }
 {
     match call {
         Call::Sell {
@@ -101,7 +101,7 @@ pub fn crossings_of<B: RuleBook>(
     books: &Books,
     call: Call,
 ) -> Result<Vec<Crossing>, AllocError>
-    ensures { IfOk result (λ v. listed v.items ≡ crossings (meaning book.now) books.now call) }
+    ensures { IfOk result (λ v. listed v.items ≡ crossings (B.meaning book.now) books.now call) }
 {
     let mut trial = Trial::start(heap, books);
     if answer_to(book, books, call).is_ok() {

@@ -36,7 +36,7 @@ fn dealt_cash(bank: u16, players: u8, marks: u16) -> [Cash; 7]
 
 // Deals a book's opening cash from the bank to each seat.
 pub fn deal<B: RuleBook>(book: &B, players: u8) -> Result<Opening, OpeningRefusal>
-    ensures { viewed result ≡ dealing (meaning book.now) players }
+    ensures { viewed result ≡ dealing (B.meaning book.now) players }
 {
     let Some(marks) = book.opening_cash(players) else {
         return Err(OpeningRefusal::NoOpeningCash);

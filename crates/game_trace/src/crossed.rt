@@ -34,7 +34,7 @@ pub(crate) fn record_crossings<B: RuleBook>(
     card: &Card,
     record: Record,
 ) -> Result<Vec<Crossing>, AllocError>
-    ensures { IfOk result (λ v. listed v.items ≡ call_crossings (meaning table.now.book) table.now.books (call_of (number_of card.now) (view «record»))) }
+    ensures { IfOk result (λ v. listed v.items ≡ call_crossings (B.meaning table.now.book) table.now.books (call_of (number_of card.now) (view «record»))) }
 {
     match call_of(number_of(card), record) {
         Some(call) => crossings_of(heap, table.book(), table.books(), call),

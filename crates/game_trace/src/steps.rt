@@ -43,7 +43,7 @@ fn push_step<B: RuleBook>(
     place: usize,
     record: Record,
 ) -> Result<Option<Card>, fmt::Error>
-    ensures step { IfOk result (λ o. Stepped (meaning table.old.book) table.old.books (number_of card) place (view «record») (string_bytes text.old) (string_bytes text.new) (held table.new.books o)) }
+    ensures step { IfOk result (λ o. Stepped (B.meaning table.old.book) table.old.books (number_of card) place (view «record») (string_bytes text.old) (string_bytes text.new) (held table.new.books o)) }
     ensures same { table.new.book ≡ table.old.book }
 {
     let players = table.books().players;
@@ -71,7 +71,7 @@ pub(crate) fn push_steps<B: RuleBook>(
     file: &[u8],
     from: usize,
 ) -> fmt::Result
-    ensures { OnOk result (Pushed (string_bytes text.old) (string_bytes text.new) (traced_from (meaning table.old.book) table.old.books (number_of card) file.now from)) }
+    ensures { OnOk result (Pushed (string_bytes text.old) (string_bytes text.new) (traced_from (B.meaning table.old.book) table.old.books (number_of card) file.now from)) }
 {
     let mut card = card;
     let mut place = from;

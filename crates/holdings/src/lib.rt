@@ -93,14 +93,14 @@ fn is_waiting(books: &Books, company: u8) -> bool
 }
 
 pub fn price_now<B: RuleBook>(book: &B, books: &Books, company: u8) -> u16
-    ensures { result ≡ price_of (meaning book.now) books.now company }
+    ensures { result ≡ price_of (B.meaning book.now) books.now company }
 {
     book.price(books.space(company))
 }
 
 // Among those without a turn in this round: highest price, then lowest number.
 pub fn next_company_of<B: RuleBook>(book: &B, books: &Books) -> Option<u8>
-    ensures { result ≡ next_company (meaning book.now) books.now }
+    ensures { result ≡ next_company (B.meaning book.now) books.now }
 {
     let mut best = None;
     for before in 0..book.companies() {
@@ -112,7 +112,7 @@ pub fn next_company_of<B: RuleBook>(book: &B, books: &Books) -> Option<u8>
 }
 
 fn better_of<B: RuleBook>(book: &B, books: &Books, best: Option<u8>, company: u8) -> Option<u8>
-    ensures { result ≡ better (meaning book.now) books.now best company }
+    ensures { result ≡ better (B.meaning book.now) books.now best company }
 {
     match best {
         Some(first) if price_now(book, books, first) >= price_now(book, books, company) => best,

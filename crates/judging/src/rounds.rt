@@ -22,7 +22,7 @@ fn is_operating_card(books: &Books, card: u16) -> bool
 }
 
 pub fn is_company_of<B: RuleBook>(book: &B, company: u8) -> bool
-    ensures { result ≡ is_company (meaning book.now) company }
+    ensures { result ≡ is_company (B.meaning book.now) company }
 {
     company >= 1 && company <= book.companies()
 }

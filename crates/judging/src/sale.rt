@@ -17,7 +17,7 @@ fn can_sell(books: &Books, seat: u8, company: u8, tenths: u8) -> bool
 
 // What a sale brings, at the price before the step.
 pub fn sale_marks<B: RuleBook>(book: &B, books: &Books, company: u8, tenths: u8) -> u32
-    ensures { result ≡ tenths * price_of (meaning book.now) books.now company }
+    ensures { result ≡ tenths * price_of (B.meaning book.now) books.now company }
 {
     u32::from(tenths) * u32::from(price_now(book, books, company))
 }
@@ -46,7 +46,7 @@ pub fn judge_sell<B: RuleBook>(
     company: u8,
     tenths: u8,
 ) -> Result<(), TableRefusal>
-    ensures { result ≡ sell_answer (meaning book.now) books.now card seat company tenths }
+    ensures { result ≡ sell_answer (B.meaning book.now) books.now card seat company tenths }
 {
     on_stock_turn(books, card, seat)?;
     if !is_company_of(book, company) {

@@ -4,9 +4,9 @@ ghost use Rattle.listing.specs.Lines.{line, refused_line};
 
 use entries::record::Record;
 use faults::file::FileFault;
-use std::fmt;
+use std::alloc::AllocError;
 
-pub fn push_record(text: &mut String, place: usize, record: Record) -> fmt::Result
+pub fn push_record(text: &mut String, place: usize, record: Record) -> Result<(), AllocError>
     ensures { OnOk result (string_bytes text.new ≡ string_bytes text.old ++ line place (view «record»)) }
 {
     match record {
@@ -36,7 +36,7 @@ pub fn push_record(text: &mut String, place: usize, record: Record) -> fmt::Resu
     }
 }
 
-pub(crate) fn push_fault(text: &mut String, fault: FileFault) -> fmt::Result
+pub(crate) fn push_fault(text: &mut String, fault: FileFault) -> Result<(), AllocError>
     ensures { OnOk result (string_bytes text.new ≡ string_bytes text.old ++ refused_line fault) }
 {
     let number = fault.refusal.number();

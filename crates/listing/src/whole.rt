@@ -7,13 +7,12 @@ use crate::lines::{push_fault, push_record};
 use faults::file::{FileFault, FileRefusal};
 use gamefile::reading::read;
 use std::alloc::{AllocError, Global};
-use std::fmt;
 
 // No game file is longer.
 const LONGEST: usize = 65_536;
 
 // A line for each record of a file of lawful length, and for the fault that ends the reading, if there is one.
-fn push_file(text: &mut String, file: &[u8]) -> fmt::Result
+fn push_file(text: &mut String, file: &[u8]) -> Result<(), AllocError>
     ensures { OnOk result (string_bytes text.new ≡ string_bytes text.old ++ lines (reading file.now)) }
 {
     let mut place = 0;
@@ -29,7 +28,7 @@ fn push_file(text: &mut String, file: &[u8]) -> fmt::Result
     Ok(())
 }
 
-fn push_listing(text: &mut String, file: &[u8]) -> fmt::Result
+fn push_listing(text: &mut String, file: &[u8]) -> Result<(), AllocError>
     ensures { OnOk result (string_bytes text.new ≡ string_bytes text.old ++ listing_of file.now) }
 {
     if file.len() > LONGEST {
@@ -48,8 +47,6 @@ pub fn listing(heap: Global, file: &[u8]) -> Result<String, AllocError>
     ensures whole { WholeFiles }
 {
     let mut text = String::new(heap);
-    match push_listing(&mut text, file) {
-        Ok(()) => Ok(text),
-        Err(_) => Err(AllocError),
-    }
+    push_listing(&mut text, file)?;
+    Ok(text)
 }

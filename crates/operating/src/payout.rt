@@ -79,7 +79,7 @@ pub fn judge_payout<B: RuleBook>(
     mode: u8,
     revenue: u16,
 ) -> Result<(), TableRefusal>
-    ensures { result ≡ payout_answer (meaning book.now) books.now card company mode revenue }
+    ensures { result ≡ payout_answer (B.meaning book.now) books.now card company mode revenue }
 {
     on_operating_turn(books, card, company)?;
     if books.operating.paid {

@@ -67,7 +67,7 @@ pub fn judge_train<B: RuleBook>(
     company: u8,
     kind: u8,
 ) -> Result<(), TableRefusal>
-    ensures { result ≡ train_answer (meaning book.now) books.now card company kind }
+    ensures { result ≡ train_answer (B.meaning book.now) books.now card company kind }
 {
     on_operating_turn(books, card, company)?;
     if !books.operating.paid {

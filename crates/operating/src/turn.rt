@@ -41,7 +41,7 @@ fn marks_of_director(books: &Books, company: u8) -> i32
 
 // Could the company and its director together pay for the lowest train?
 fn reaches_train<B: RuleBook>(book: &B, books: &Books, company: u8) -> bool
-    ensures { result ≡ can_reach (meaning book.now) books.now company (lowest_kind books.now) }
+    ensures { result ≡ can_reach (B.meaning book.now) books.now company (lowest_kind books.now) }
 {
     match lowest_kind_of(books) {
         Some(kind) => reaches_kind(book, books, company, kind),
@@ -50,7 +50,7 @@ fn reaches_train<B: RuleBook>(book: &B, books: &Books, company: u8) -> bool
 }
 
 fn reaches_kind<B: RuleBook>(book: &B, books: &Books, company: u8, kind: u8) -> bool
-    ensures { result ≡ can_reach (meaning book.now) books.now company (Some kind) }
+    ensures { result ≡ can_reach (B.meaning book.now) books.now company (Some kind) }
 {
     let treasury = books.players as usize + company as usize;
     i64::from(book.train_price(kind))
@@ -63,7 +63,7 @@ pub fn judge_done<B: RuleBook>(
     card: u16,
     company: u8,
 ) -> Result<(), TableRefusal>
-    ensures { result ≡ done_answer (meaning book.now) books.now card company }
+    ensures { result ≡ done_answer (B.meaning book.now) books.now card company }
 {
     on_operating_turn(books, card, company)?;
     if !books.operating.paid {

@@ -46,7 +46,7 @@ fn sold_in_round(books: &Books, seat: u8, company: u8) -> bool
 }
 
 pub fn par_paid<B: RuleBook>(book: &B, books: &Books, company: u8, source: u8, space: u16) -> u16
-    ensures { result ≡ par_for (meaning book.now) books.now company source space }
+    ensures { result ≡ par_for (B.meaning book.now) books.now company source space }
 {
     if is_director_sale(books, company, source) {
         book.price(space)
@@ -56,7 +56,7 @@ pub fn par_paid<B: RuleBook>(book: &B, books: &Books, company: u8, source: u8, s
 }
 
 pub fn cost_of<B: RuleBook>(book: &B, books: &Books, company: u8, source: u8, space: u16) -> u32
-    ensures { result ≡ cost (meaning book.now) books.now company source space }
+    ensures { result ≡ cost (B.meaning book.now) books.now company source space }
 {
     if source == 0 {
         u32::from(par_paid(book, books, company, 0, space))
@@ -68,7 +68,7 @@ pub fn cost_of<B: RuleBook>(book: &B, books: &Books, company: u8, source: u8, sp
 
 // Offering papers of a company that had floated pay the company, under sold funding.
 pub fn payee_of<B: RuleBook>(book: &B, books: &Books, company: u8, source: u8) -> usize
-    ensures { result ≡ payee (meaning book.now) books.now company source }
+    ensures { result ≡ payee (B.meaning book.now) books.now company source }
 {
     match book.funding() {
         Funding::Sold if source == 0 && books.floated(company) => books.players as usize
@@ -90,7 +90,7 @@ fn gone_after(books: &Books, company: u8, source: u8) -> u8
 }
 
 pub fn is_floating<B: RuleBook>(book: &B, books: &Books, company: u8, source: u8) -> bool
-    ensures { result ≡ floats (meaning book.now) books.now company source }
+    ensures { result ≡ floats (B.meaning book.now) books.now company source }
 {
     !books.floated(company) && book.float(company) <= gone_after(books, company, source)
 }
@@ -102,14 +102,14 @@ pub fn float_payment<B: RuleBook>(
     source: u8,
     space: u16,
 ) -> u32
-    ensures { result ≡ float_money (meaning book.now) books.now company source space }
+    ensures { result ≡ float_money (B.meaning book.now) books.now company source space }
 {
     let tenths = book.funding().tenths(gone_after(books, company, source));
     u32::from(tenths) * u32::from(par_paid(book, books, company, source, space))
 }
 
 fn cannot_float<B: RuleBook>(book: &B, books: &Books, company: u8, source: u8, space: u16) -> bool
-    ensures { result ≡ float_short (meaning book.now) books.now company source space }
+    ensures { result ≡ float_short (B.meaning book.now) books.now company source space }
 {
     is_floating(book, books, company, source)
         && falls_short(
@@ -128,7 +128,7 @@ fn falls_short(marks: i32, gets: u32, gives: u32) -> bool
 }
 
 fn passes_certificate_limit<B: RuleBook>(book: &B, books: &Books, seat: u8) -> bool
-    ensures { result ≡ nat_lt ((meaning book.now).certificate_limit books.now.players) (certificates_held books.now seat (meaning book.now).companies + 1) }
+    ensures { result ≡ nat_lt ((B.meaning book.now).certificate_limit books.now.players) (certificates_held books.now seat (B.meaning book.now).companies + 1) }
 {
     u64::from(certificates_held_by(books, seat, book.companies())) + 1
         > u64::from(book.certificate_limit(books.players))
@@ -141,7 +141,7 @@ fn passes_share_limit<B: RuleBook>(
     company: u8,
     source: u8,
 ) -> bool
-    ensures { result ≡ nat_lt (meaning book.now).share_limit (seat_tenths books.now company seat + bought_size books.now company source) }
+    ensures { result ≡ nat_lt (B.meaning book.now).share_limit (seat_tenths books.now company seat + bought_size books.now company source) }
 {
     u64::from(seat_tenths(books, company, seat)) + u64::from(size_bought(books, company, source))
         > u64::from(book.share_limit())
@@ -155,7 +155,7 @@ fn allow_purchase<B: RuleBook>(
     source: u8,
     space: u16,
 ) -> Result<(), TableRefusal>
-    ensures { result ≡ may_buy (meaning book.now) books.now seat company source space }
+    ensures { result ≡ may_buy (B.meaning book.now) books.now seat company source space }
 {
     if !is_company_of(book, company) {
         return Err(TableRefusal::NoSuchCompany);
@@ -185,7 +185,7 @@ fn allow_purchase<B: RuleBook>(
 }
 
 fn lacks_par<B: RuleBook>(book: &B, books: &Books, company: u8, source: u8, space: u16) -> bool
-    ensures { result ≡ (buys_director books.now company source && not ((meaning book.now).par space)) }
+    ensures { result ≡ (buys_director books.now company source && not ((B.meaning book.now).par space)) }
 {
     is_director_sale(books, company, source) && !book.is_par(space)
 }
@@ -199,7 +199,7 @@ pub fn judge_buy<B: RuleBook>(
     source: u8,
     space: u16,
 ) -> Result<(), TableRefusal>
-    ensures { result ≡ buy_answer (meaning book.now) books.now card seat company source space }
+    ensures { result ≡ buy_answer (B.meaning book.now) books.now card seat company source space }
 {
     on_stock_turn(books, card, seat)?;
     allow_purchase(book, books, seat, company, source, space)?;
@@ -227,7 +227,7 @@ pub fn token_then(books: &Books, company: u8, source: u8, space: u16) -> u16
 }
 
 pub fn floated_then<B: RuleBook>(book: &B, books: &Books, company: u8, source: u8) -> bool
-    ensures { result ≡ ((company_of books.now company).floated || floats (meaning book.now) books.now company source) }
+    ensures { result ≡ ((company_of books.now company).floated || floats (B.meaning book.now) books.now company source) }
 {
     books.floated(company) || is_floating(book, books, company, source)
 }

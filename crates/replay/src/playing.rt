@@ -17,9 +17,9 @@ pub fn play<B: RuleBook>(
     file: &[u8],
     from: usize,
 ) -> Result<Card, (FileFault, Card)>
-    ensures played { (table.new.books, card_held result, fault_told result) ≡ played_from (meaning table.old.book) table.old.books (number_of card) file.now from }
+    ensures played { (table.new.books, card_held result, fault_told result) ≡ played_from (B.meaning table.old.book) table.old.books (number_of card) file.now from }
     ensures same { table.new.book ≡ table.old.book }
-    ensures life { LedOn (meaning table.old.book) table.old.books table.new.books }
+    ensures life { LedOn (B.meaning table.old.book) table.old.books table.new.books }
     ensures card { number_of card ≡ table.old.books.round → card_held result ≡ table.new.books.round }
 {
     let mut card = card;

@@ -36,7 +36,7 @@ fn with_stock_card<B: RuleBook>(
     place: usize,
     record: Record,
 ) -> Result<Card, (FileFault, Card)>
-    ensures played { (table.new.books, card_held result, fault_told result) ≡ asked (meaning table.old.book) table.old.books true card.number place (call_of card.number (view «record»)) }
+    ensures played { (table.new.books, card_held result, fault_told result) ≡ asked (B.meaning table.old.book) table.old.books true card.number place (call_of card.number (view «record»)) }
     ensures same { table.new.book ≡ table.old.book }
 {
     match record {
@@ -79,7 +79,7 @@ fn with_operating_card<B: RuleBook>(
     place: usize,
     record: Record,
 ) -> Result<Card, (FileFault, Card)>
-    ensures played { (table.new.books, card_held result, fault_told result) ≡ asked (meaning table.old.book) table.old.books false card.number place (call_of card.number (view «record»)) }
+    ensures played { (table.new.books, card_held result, fault_told result) ≡ asked (B.meaning table.old.book) table.old.books false card.number place (call_of card.number (view «record»)) }
     ensures same { table.new.book ≡ table.old.book }
 {
     match record {
@@ -122,7 +122,7 @@ pub fn make_record<B: RuleBook>(
     place: usize,
     record: Record,
 ) -> Result<Card, (FileFault, Card)>
-    ensures played { (table.new.books, card_held result, fault_told result) ≡ record_played (meaning table.old.book) table.old.books (number_of card) place (view «record») }
+    ensures played { (table.new.books, card_held result, fault_told result) ≡ record_played (B.meaning table.old.book) table.old.books (number_of card) place (view «record») }
     ensures same { table.new.book ≡ table.old.book }
 {
     match card {

@@ -29,14 +29,14 @@ fn deal_cash(total: u16, players: u8, cash: u16) -> [Cash; 15]
 }
 
 fn stack_trains<B: RuleBook>(book: &B) -> [Trains; 9]
-    ensures { result ≡ stack_of (meaning book.now).train_count ∷ replicate 8 no_trains }
+    ensures { result ≡ stack_of (B.meaning book.now).train_count ∷ replicate 8 no_trains }
 {
     let none = Trains::none();
     [stack(book), none, none, none, none, none, none, none, none]
 }
 
 fn stack<B: RuleBook>(book: &B) -> Trains
-    ensures { result ≡ stack_of (meaning book.now).train_count }
+    ensures { result ≡ stack_of (B.meaning book.now).train_count }
 {
     Trains::new([
         book.train_count(0),
@@ -78,8 +78,8 @@ fn list_companies(companies: u8) -> [Company; 8]
 }
 
 fn opening_books<B: RuleBook>(book: &B, players: u8, cash: u16) -> Books
-    requires { (players ≤ 6) × (players * cash ≤ (meaning book.now).bank) }
-    ensures { result ≡ opened (meaning book.now) players cash }
+    requires { (players ≤ 6) × (players * cash ≤ (B.meaning book.now).bank) }
+    ensures { result ≡ opened (B.meaning book.now) players cash }
 {
     Books {
         players,
@@ -104,7 +104,7 @@ fn opening_books<B: RuleBook>(book: &B, players: u8, cash: u16) -> Books
 
 // Refused where the book has no opening cash for so many players.
 pub fn open_books<B: RuleBook>(book: &B, players: u8) -> Result<Books, TableRefusal>
-    ensures { result ≡ open_answer (meaning book.now) players }
+    ensures { result ≡ open_answer (B.meaning book.now) players }
 {
     match book.opening_cash(players) {
         Some(cash) => Ok(opening_books(book, players, cash)),

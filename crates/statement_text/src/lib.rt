@@ -17,7 +17,7 @@ mod lines;
 
 // Writes the statement at the front of the buffer and answers its length.
 pub fn statement<B: RuleBook>(table: &Table<B>, buffer: &mut [u8]) -> Result<usize, FileFault>
-    ensures { (result, buffer.new) ≡ handed_over (statement_of (meaning table.now.book) table.now.books) buffer.old }
+    ensures { (result, buffer.new) ≡ handed_over (statement_of (B.meaning table.now.book) table.now.books) buffer.old }
 {
     let text = lines::statement_lines(table.book(), table.books());
     buffer::hand_over(&text, buffer)

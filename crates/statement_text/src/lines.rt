@@ -8,7 +8,7 @@ use rulebook::book::RuleBook;
 use text::Text;
 
 pub(crate) fn statement_lines<B: RuleBook>(book: &B, books: &Books) -> Text
-    ensures { shown result ≡ added [] (statement_of (meaning book.now) books.now) }
+    ensures { shown result ≡ added [] (statement_of (B.meaning book.now) books.now) }
 {
     let mut text = Text::empty();
     text.push_bank_line(books.marks(0));
@@ -18,7 +18,7 @@ pub(crate) fn statement_lines<B: RuleBook>(book: &B, books: &Books) -> Text
 }
 
 fn push_seats<B: RuleBook>(text: &mut Text, book: &B, books: &Books)
-    ensures { shown text.new ≡ added (shown text.old) (lines_to (seat_line_of (meaning book.now) books.now) books.now.players) }
+    ensures { shown text.new ≡ added (shown text.old) (lines_to (seat_line_of (B.meaning book.now) books.now) books.now.players) }
 {
     for before in 0..books.players {
         push_seat(text, book, books, before + 1);
@@ -26,7 +26,7 @@ fn push_seats<B: RuleBook>(text: &mut Text, book: &B, books: &Books)
 }
 
 fn push_seat<B: RuleBook>(text: &mut Text, book: &B, books: &Books, seat: u8)
-    ensures { shown text.new ≡ added (shown text.old) (seat_line_of (meaning book.now) books.now seat) }
+    ensures { shown text.new ≡ added (shown text.old) (seat_line_of (B.meaning book.now) books.now seat) }
 {
     let cash = books.marks(seat as usize);
     let certificates = certificates_held_by(books, seat, book.companies());
@@ -34,7 +34,7 @@ fn push_seat<B: RuleBook>(text: &mut Text, book: &B, books: &Books, seat: u8)
 }
 
 fn push_companies<B: RuleBook>(text: &mut Text, book: &B, books: &Books)
-    ensures { shown text.new ≡ added (shown text.old) (lines_to (company_line_of (meaning book.now) books.now) (meaning book.now).companies) }
+    ensures { shown text.new ≡ added (shown text.old) (lines_to (company_line_of (B.meaning book.now) books.now) (B.meaning book.now).companies) }
 {
     for before in 0..book.companies() {
         push_company(text, book, books, before + 1);
@@ -43,7 +43,7 @@ fn push_companies<B: RuleBook>(text: &mut Text, book: &B, books: &Books)
 
 // A company whose director's certificate is still in the offering has no line.
 fn push_company<B: RuleBook>(text: &mut Text, book: &B, books: &Books, company: u8)
-    ensures { shown text.new ≡ added (shown text.old) (company_line_of (meaning book.now) books.now company) }
+    ensures { shown text.new ≡ added (shown text.old) (company_line_of (B.meaning book.now) books.now company) }
 {
     if holds_director(books, company, 0) {
         return;

@@ -31,8 +31,8 @@ pub(crate) fn call_sell<B: RuleBook>(
     tenths: u8,
 ) -> Result<(), TableRefusal>
     requires { Bounded books.old }
-    ensures told { result ≡ answer (meaning book.now) books.old (Sell card seat company tenths) }
-    ensures made { books.new ≡ after (meaning book.now) books.old (Sell card seat company tenths) }
+    ensures told { result ≡ answer (B.meaning book.now) books.old (Sell card seat company tenths) }
+    ensures made { books.new ≡ after (B.meaning book.now) books.old (Sell card seat company tenths) }
 {
     judge_sell(book, books, card, seat, company, tenths)?;
     make_sale(book, books, seat, company, tenths);
@@ -49,8 +49,8 @@ pub(crate) fn call_buy<B: RuleBook>(
     space: u16,
 ) -> Result<(), TableRefusal>
     requires { Bounded books.old }
-    ensures told { result ≡ answer (meaning book.now) books.old (Buy card seat company source space) }
-    ensures made { books.new ≡ after (meaning book.now) books.old (Buy card seat company source space) }
+    ensures told { result ≡ answer (B.meaning book.now) books.old (Buy card seat company source space) }
+    ensures made { books.new ≡ after (B.meaning book.now) books.old (Buy card seat company source space) }
 {
     judge_buy(book, books, card, seat, company, source, space)?;
     make_purchase(book, books, seat, company, source, space);
@@ -73,8 +73,8 @@ pub(crate) fn call_close<B: RuleBook>(
     card: u16,
 ) -> Result<(), TableRefusal>
     requires { Bounded books.old }
-    ensures told { result ≡ answer (meaning book.now) books.old (Close card) }
-    ensures made { books.new ≡ after (meaning book.now) books.old (Close card) }
+    ensures told { result ≡ answer (B.meaning book.now) books.old (Close card) }
+    ensures made { books.new ≡ after (B.meaning book.now) books.old (Close card) }
 {
     judge_close(books, card)?;
     close_round(book, books);
@@ -105,8 +105,8 @@ pub(crate) fn call_payout<B: RuleBook>(
     revenue: u16,
 ) -> Result<(), TableRefusal>
     requires { Bounded books.old }
-    ensures told { result ≡ answer (meaning book.now) books.old (Payout card company mode revenue) }
-    ensures made { books.new ≡ after (meaning book.now) books.old (Payout card company mode revenue) }
+    ensures told { result ≡ answer (B.meaning book.now) books.old (Payout card company mode revenue) }
+    ensures made { books.new ≡ after (B.meaning book.now) books.old (Payout card company mode revenue) }
 {
     judge_payout(book, books, card, company, mode, revenue)?;
     make_payout(book, books, company, mode, revenue);
@@ -121,8 +121,8 @@ pub(crate) fn call_train<B: RuleBook>(
     kind: u8,
 ) -> Result<(), TableRefusal>
     requires { Bounded books.old }
-    ensures told { result ≡ answer (meaning book.now) books.old (Train card company kind) }
-    ensures made { books.new ≡ after (meaning book.now) books.old (Train card company kind) }
+    ensures told { result ≡ answer (B.meaning book.now) books.old (Train card company kind) }
+    ensures made { books.new ≡ after (B.meaning book.now) books.old (Train card company kind) }
 {
     judge_train(book, books, card, company, kind)?;
     buy_train(book, books, company, kind);
@@ -136,8 +136,8 @@ pub(crate) fn call_done<B: RuleBook>(
     company: u8,
 ) -> Result<(), TableRefusal>
     requires { Bounded books.old }
-    ensures told { result ≡ answer (meaning book.now) books.old (Done card company) }
-    ensures made { books.new ≡ after (meaning book.now) books.old (Done card company) }
+    ensures told { result ≡ answer (B.meaning book.now) books.old (Done card company) }
+    ensures made { books.new ≡ after (B.meaning book.now) books.old (Done card company) }
 {
     judge_done(book, books, card, company)?;
     finish_turn(book, books, company);
@@ -157,7 +157,7 @@ pub(crate) fn call_reopen(books: &mut Books, card: u16) -> Result<(), TableRefus
 // Any of them.
 pub(crate) fn make<B: RuleBook>(book: &B, books: &mut Books, call: Call) -> Result<(), TableRefusal>
     requires { Bounded books.old }
-    ensures { (result ≡ answer (meaning book.now) books.old call) × (books.new ≡ after (meaning book.now) books.old call) }
+    ensures { (result ≡ answer (B.meaning book.now) books.old call) × (books.new ≡ after (B.meaning book.now) books.old call) }
 {
     match call {
         Call::Sell {

@@ -17,7 +17,7 @@ use setup::open_books;
 // Granted or refused: a refused call leaves the books as they were.
 fn lead_books<B: RuleBook>(book: &B, books: &mut Books, calls: &[Call])
     requires { Bounded books.old }
-    ensures { books.new ≡ fold (after (meaning book.now)) books.old calls.now }
+    ensures { books.new ≡ fold (after (B.meaning book.now)) books.old calls.now }
 {
     for call in calls {
         let _ = make(book, books, *call);
@@ -31,7 +31,7 @@ pub fn compare_lives<B: RuleBook>(
     one: &[Call],
     other: &[Call],
 ) -> Result<bool, TableFault>
-    ensures { MatchResult result (λ same. Compared (meaning book.now) players one.now other.now same) (λ e. in_call CallName.Open (open_answer (meaning book.now) players) ≡ Err e) }
+    ensures { MatchResult result (λ same. Compared (B.meaning book.now) players one.now other.now same) (λ e. in_call CallName.Open (open_answer (B.meaning book.now) players) ≡ Err e) }
 {
     let mut first = in_call(CallName::Open, open_books(book, players))?;
     let mut second = in_call(CallName::Open, open_books(book, players))?;

@@ -47,7 +47,7 @@ pub(crate) fn make_payout<B: RuleBook>(
     revenue: u16,
 )
     requires { company ≤ 8 }
-    ensures { books.new ≡ payout_after (meaning book.now) books.old company mode revenue }
+    ensures { books.new ≡ payout_after (B.meaning book.now) books.old company mode revenue }
 {
     let space = book.after_payout(books.space(company), mode, revenue);
     pay_split(books, company, book.split(mode, revenue));

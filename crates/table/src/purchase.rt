@@ -24,7 +24,7 @@ fn pay_and_receive<B: RuleBook>(
     space: u16,
 )
     requires { company ≤ 8 }
-    ensures { books.new ≡ all_crossed books.old (purchase (meaning book.now) books.old seat company source space) }
+    ensures { books.new ≡ all_crossed books.old (purchase (B.meaning book.now) books.old seat company source space) }
 {
     let marks = cost_of(book, books, company, source, space);
     let payee = payee_of(book, books, company, source);
@@ -78,7 +78,7 @@ pub(crate) fn make_purchase<B: RuleBook>(
     space: u16,
 )
     requires { company ≤ 8 }
-    ensures { books.new ≡ buy_after (meaning book.now) books.old seat company source space }
+    ensures { books.new ≡ buy_after (B.meaning book.now) books.old seat company source space }
 {
     let token = token_then(books, company, source, space);
     let par = par_paid(book, books, company, source, space);

@@ -38,7 +38,7 @@ fn next_first_seat(books: &Books) -> u8
 
 pub(crate) fn close_round<B: RuleBook>(book: &B, books: &mut Books)
     requires { books.old.round ≤ 9999 }
-    ensures { books.new ≡ close_after (meaning book.now) books.old }
+    ensures { books.new ≡ close_after (B.meaning book.now) books.old }
 {
     books.stock.first = next_first_seat(books);
     books.round += 1;
@@ -71,7 +71,7 @@ fn note_served(books: &mut Books, company: u8)
 
 pub(crate) fn finish_turn<B: RuleBook>(book: &B, books: &mut Books, company: u8)
     requires { company ≤ 8 }
-    ensures { books.new ≡ done_after (meaning book.now) books.old company }
+    ensures { books.new ≡ done_after (B.meaning book.now) books.old company }
 {
     note_served(books, company);
     let company = next_company_of(book, books);

@@ -22,7 +22,7 @@ fn exchange_before_sale(books: &mut Books, seat: u8, company: u8, tenths: u8)
 
 pub(crate) fn make_sale<B: RuleBook>(book: &B, books: &mut Books, seat: u8, company: u8, tenths: u8)
     requires { company ≤ 8 }
-    ensures { books.new ≡ sell_after (meaning book.now) books.old seat company tenths }
+    ensures { books.new ≡ sell_after (B.meaning book.now) books.old seat company tenths }
 {
     let marks = sale_marks(book, books, company, tenths);
     let space = book.after_sale(books.space(company), tenths);

@@ -25,7 +25,7 @@ fn get_help(books: &mut Books, company: u8, price: u16)
 }
 
 pub(crate) fn buy_train<B: RuleBook>(book: &B, books: &mut Books, company: u8, kind: u8)
-    ensures { books.new ≡ train_after (meaning book.now) books.old company kind }
+    ensures { books.new ≡ train_after (B.meaning book.now) books.old company kind }
 {
     let price = book.train_price(kind);
     let treasury = books.players as usize + company as usize;

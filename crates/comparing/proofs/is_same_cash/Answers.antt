@@ -12,7 +12,7 @@ pub returns : goal.returns
 returns c =
     let m = c.marks in
     let n = c.marks-2 in
-    let same : m.result ≡ n.result = sym (to_z-of_z w32 m.result (record { sfits = m.type-inv })) ∙ ap (to_z w32) c.if-marks.false ∙ to_z-of_z w32 n.result (record { sfits = n.type-inv }) in
+    let same : m.result ≡ n.result = sym (to_z-of_z w32 m.result (record { sfits = m.type_inv })) ∙ ap (to_z w32) c.if-marks.false ∙ to_z-of_z w32 n.result (record { sfits = n.type_inv }) in
     decided c.eq.result (c.floor.result ≡ c.floor-2.result) (c.args.one ≡ c.args.other) c.eq.ensures
     (λ f. same_cash c.args.one c.args.other (sym m.ensures ∙ same ∙ n.ensures) (sym c.floor.ensures ∙ f ∙ c.floor-2.ensures))
     (λ e. c.floor.ensures ∙ ap (λ (h : Cash). h.floor) e ∙ sym c.floor-2.ensures)

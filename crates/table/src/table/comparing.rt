@@ -8,7 +8,7 @@ use rulebook::book::RuleBook;
 impl<B: RuleBook> Table<B> {
     // Are they equal in every hand?
     pub fn same_hands(&self, other: &Table<B>) -> bool
-        ensures { TablesCompared (meaning self.now.book) (meaning other.now.book) self.now.books other.now.books result }
+        ensures { TablesCompared (B.meaning self.now.book) (B.meaning other.now.book) self.now.books other.now.books result }
     {
         same_books(&self.books, &other.books)
     }

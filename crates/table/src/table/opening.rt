@@ -11,7 +11,7 @@ use setup::open_books;
 
 impl<B: RuleBook + Drop> Table<B> {
     pub fn open(book: B, players: u8) -> Result<(Table<B>, StockCard), TableFault>
-        ensures { MatchResult result (λ v. (in_call CallName.Open (open_answer (meaning book) players) ≡ Ok v.0.books) × (v.0.book ≡ book) × (v.1.number ≡ 1)) (λ e. in_call CallName.Open (open_answer (meaning book) players) ≡ Err e) }
+        ensures { MatchResult result (λ v. (in_call CallName.Open (open_answer (B.meaning book) players) ≡ Ok v.0.books) × (v.0.book ≡ book) × (v.1.number ≡ 1)) (λ e. in_call CallName.Open (open_answer (B.meaning book) players) ≡ Err e) }
     {
         let books = in_call(CallName::Open, open_books(&book, players))?;
         Ok((Table { book, books }, StockCard { number: 1 }))

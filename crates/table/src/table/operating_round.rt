@@ -13,8 +13,8 @@ use rulebook::book::RuleBook;
 
 impl<B: RuleBook> Table<B> {
     pub fn bill(&mut self, card: &OperatingCard, company: u8, amount: u16) -> Result<(), TableFault>
-        ensures told { result ≡ in_call CallName.Bill (answer (meaning self.old.book) self.old.books (Bill card.now.number company amount)) }
-        ensures made { self.new.books ≡ after (meaning self.old.book) self.old.books (Bill card.now.number company amount) }
+        ensures told { result ≡ in_call CallName.Bill (answer (B.meaning self.old.book) self.old.books (Bill card.now.number company amount)) }
+        ensures made { self.new.books ≡ after (B.meaning self.old.book) self.old.books (Bill card.now.number company amount) }
         ensures same { self.new.book ≡ self.old.book }
     {
         in_call(
@@ -30,8 +30,8 @@ impl<B: RuleBook> Table<B> {
         mode: u8,
         revenue: u16,
     ) -> Result<(), TableFault>
-        ensures told { result ≡ in_call CallName.Payout (answer (meaning self.old.book) self.old.books (Payout card.now.number company mode revenue)) }
-        ensures made { self.new.books ≡ after (meaning self.old.book) self.old.books (Payout card.now.number company mode revenue) }
+        ensures told { result ≡ in_call CallName.Payout (answer (B.meaning self.old.book) self.old.books (Payout card.now.number company mode revenue)) }
+        ensures made { self.new.books ≡ after (B.meaning self.old.book) self.old.books (Payout card.now.number company mode revenue) }
         ensures same { self.new.book ≡ self.old.book }
     {
         in_call(
@@ -48,8 +48,8 @@ impl<B: RuleBook> Table<B> {
     }
 
     pub fn train(&mut self, card: &OperatingCard, company: u8, kind: u8) -> Result<(), TableFault>
-        ensures told { result ≡ in_call CallName.Train (answer (meaning self.old.book) self.old.books (Train card.now.number company kind)) }
-        ensures made { self.new.books ≡ after (meaning self.old.book) self.old.books (Train card.now.number company kind) }
+        ensures told { result ≡ in_call CallName.Train (answer (B.meaning self.old.book) self.old.books (Train card.now.number company kind)) }
+        ensures made { self.new.books ≡ after (B.meaning self.old.book) self.old.books (Train card.now.number company kind) }
         ensures same { self.new.book ≡ self.old.book }
     {
         in_call(
@@ -59,8 +59,8 @@ impl<B: RuleBook> Table<B> {
     }
 
     pub fn done(&mut self, card: &OperatingCard, company: u8) -> Result<(), TableFault>
-        ensures told { result ≡ in_call CallName.Done (answer (meaning self.old.book) self.old.books (Done card.now.number company)) }
-        ensures made { self.new.books ≡ after (meaning self.old.book) self.old.books (Done card.now.number company) }
+        ensures told { result ≡ in_call CallName.Done (answer (B.meaning self.old.book) self.old.books (Done card.now.number company)) }
+        ensures made { self.new.books ≡ after (B.meaning self.old.book) self.old.books (Done card.now.number company) }
         ensures same { self.new.book ≡ self.old.book }
     {
         in_call(
@@ -70,9 +70,9 @@ impl<B: RuleBook> Table<B> {
     }
 
     pub fn reopen(&mut self, card: OperatingCard) -> Result<StockCard, (TableFault, OperatingCard)>
-        ensures told { told_by result ≡ in_call CallName.Reopen (answer (meaning self.old.book) self.old.books (Reopen card.number)) }
+        ensures told { told_by result ≡ in_call CallName.Reopen (answer (B.meaning self.old.book) self.old.books (Reopen card.number)) }
         ensures card { MatchResult result (λ next. next.number ≡ self.old.books.round + 1) (λ back. back.1 ≡ card) }
-        ensures made { self.new.books ≡ after (meaning self.old.book) self.old.books (Reopen card.number) }
+        ensures made { self.new.books ≡ after (B.meaning self.old.book) self.old.books (Reopen card.number) }
         ensures same { self.new.book ≡ self.old.book }
     {
         match in_call(CallName::Reopen, call_reopen(&mut self.books, card.number)) {

@@ -19,8 +19,8 @@ impl<B: RuleBook> Table<B> {
         company: u8,
         tenths: u8,
     ) -> Result<(), TableFault>
-        ensures told { result ≡ in_call CallName.Sell (answer (meaning self.old.book) self.old.books (Sell card.now.number seat company tenths)) }
-        ensures made { self.new.books ≡ after (meaning self.old.book) self.old.books (Sell card.now.number seat company tenths) }
+        ensures told { result ≡ in_call CallName.Sell (answer (B.meaning self.old.book) self.old.books (Sell card.now.number seat company tenths)) }
+        ensures made { self.new.books ≡ after (B.meaning self.old.book) self.old.books (Sell card.now.number seat company tenths) }
         ensures same { self.new.book ≡ self.old.book }
     {
         in_call(
@@ -44,8 +44,8 @@ impl<B: RuleBook> Table<B> {
         source: u8,
         space: u16,
     ) -> Result<(), TableFault>
-        ensures told { result ≡ in_call CallName.Buy (answer (meaning self.old.book) self.old.books (Buy card.now.number seat company source space)) }
-        ensures made { self.new.books ≡ after (meaning self.old.book) self.old.books (Buy card.now.number seat company source space) }
+        ensures told { result ≡ in_call CallName.Buy (answer (B.meaning self.old.book) self.old.books (Buy card.now.number seat company source space)) }
+        ensures made { self.new.books ≡ after (B.meaning self.old.book) self.old.books (Buy card.now.number seat company source space) }
         ensures same { self.new.book ≡ self.old.book }
     {
         in_call(
@@ -63,17 +63,17 @@ impl<B: RuleBook> Table<B> {
     }
 
     pub fn end(&mut self, card: &StockCard, seat: u8) -> Result<(), TableFault>
-        ensures told { result ≡ in_call CallName.End (answer (meaning self.old.book) self.old.books (End card.now.number seat)) }
-        ensures made { self.new.books ≡ after (meaning self.old.book) self.old.books (End card.now.number seat) }
+        ensures told { result ≡ in_call CallName.End (answer (B.meaning self.old.book) self.old.books (End card.now.number seat)) }
+        ensures made { self.new.books ≡ after (B.meaning self.old.book) self.old.books (End card.now.number seat) }
         ensures same { self.new.book ≡ self.old.book }
     {
         in_call(CallName::End, call_end(&mut self.books, card.number, seat))
     }
 
     pub fn close(&mut self, card: StockCard) -> Result<OperatingCard, (TableFault, StockCard)>
-        ensures told { told_by result ≡ in_call CallName.Close (answer (meaning self.old.book) self.old.books (Close card.number)) }
+        ensures told { told_by result ≡ in_call CallName.Close (answer (B.meaning self.old.book) self.old.books (Close card.number)) }
         ensures card { MatchResult result (λ next. next.number ≡ self.old.books.round + 1) (λ back. back.1 ≡ card) }
-        ensures made { self.new.books ≡ after (meaning self.old.book) self.old.books (Close card.number) }
+        ensures made { self.new.books ≡ after (B.meaning self.old.book) self.old.books (Close card.number) }
         ensures same { self.new.book ≡ self.old.book }
     {
         match in_call(

@@ -24,4 +24,4 @@ invariant_of-result g c =
     let law = g.met.B.RuleBook.lawful c.args.book.now in
     let e = sym c.opening_cash.ensures ∙ c.in-Some.is in
     let six = seated _ law c.args.players c.in-Some.marks e in
-    (six, (seven c.bank_total.result c.args.players c.in-Some.marks c.dealt_cash-cash.result six c.dealt_cash-cash.ensures, tt))
+    record { seated = six; wide = seven c.bank_total.result c.args.players c.in-Some.marks c.dealt_cash-cash.result six c.dealt_cash-cash.ensures }

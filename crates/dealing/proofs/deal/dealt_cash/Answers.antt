@@ -10,8 +10,8 @@ unreachable-requires c =
 
 pub loop-seat-init : goal.loop-seat-init
 loop-seat-init c =
-    let e = c.undealt_row.ensures ∙ none_dealt c.args.bank c.args.marks in
-    (e, seven c.args.bank 0 c.args.marks c.undealt_row.result (omega arith) e)
+    let e = c.undealt-row.ensures ∙ none_dealt c.args.bank c.args.marks in
+    (e, seven c.args.bank 0 c.args.marks c.undealt-row.result (omega arith) e)
 
 pub loop-seat-preserved : goal.loop-seat-preserved
 loop-seat-preserved c =

@@ -16,7 +16,7 @@ loop-place-preserved c =
     let got = c.in-Ok.ensures in
     let all = string_bytes c.args.text.now ++ lines (reading file) in (
       got.within.1,
-      record_left file c.loop-place.place i.0 i.1 (string_bytes c.loop-place.text) all i.2 c.loop-place-test.true (view c.in-Ok.record) c.in-Ok.next got.value got.within.0 _ c.in-ok-push-record.ensures,
+      record_left file c.loop-place.place i.0 i.1 (string_bytes c.loop-place.text) all i.2 c.loop-place-test.true (view c.in-Ok.record) c.in-Ok.next got.value got.within.0 _ c.in_ok-push_record-in-Ok.ensures,
     )
 
 pub returns-in-Err : goal.returns-in-Err
@@ -25,7 +25,7 @@ returns-in-Err c =
     let i = c.loop-place.invariant.1 in
     let all = string_bytes c.args.text.now ++ lines (reading file) in
     let left = fault_left file c.loop-place.place i.0 i.1 (string_bytes c.loop-place.text) all i.2 c.loop-place-test.true c.in-Err.fault c.in-Err.ensures.value in
-    IfOk-weaker c.push-fault.result _ _ (λ _ pushed. pushed ∙ left) c.push-fault.ensures
+    IfOk-weaker c.push_fault.result _ _ (λ _ pushed. pushed ∙ left) c.push_fault.ensures
 
 pub returns : goal.returns
 returns c =

@@ -16,7 +16,7 @@ returns g c =
     let all = shown c.push-companies.new.text in
     let seats = lines_to (seat_line_of b s) s.players in
     let companies = lines_to (company_line_of b s) b.companies in
-    let marks = to_z-of_z w32 c.marks.result (record { sfits = c.marks.type-inv }) ∙ c.marks.ensures in
+    let marks = to_z-of_z w32 c.marks.result (record { sfits = c.marks.type_inv }) ∙ c.marks.ensures in
     let top : first ≡ added [] (bank_line (marks_at s bank)) = c.push-bank-line.ensures ∙ ap (λ m. added (shown c.empty-text.result) (bank_line m)) marks ∙ ap (λ t. added t (bank_line (marks_at s bank))) c.empty-text.ensures in
     let rest = added_then first seated all seats companies c.push-seats.ensures c.push-companies.ensures in
     added_then [] first all (bank_line (marks_at s bank)) (seats ++ companies) top rest

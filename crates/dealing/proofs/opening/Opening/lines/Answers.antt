@@ -14,7 +14,7 @@ loop-seat-init c =
     let h = c.push_bank_line.ensures in
     let first = bank_first row c.index-self-0.result (omega (arith, c.args.self.now.wide)) in
     h
-    ∙ ap (λ m. added (shown c.empty-text.result) (bank_line m)) (to_z-of_z w32 c.marks.result (record { sfits = c.marks.type-inv }))
+    ∙ ap (λ m. added (shown c.empty-text.result) (bank_line m)) (to_z-of_z w32 c.marks.result (record { sfits = c.marks.type_inv }))
     ∙ ap (λ t. added t (bank_line c.marks.result)) c.empty-text.ensures ∙ ap (λ m. added [] (bank_line m)) c.marks.ensures ∙ ap (added []) (sym first)
 
 pub loop-seat-preserved : goal.loop-seat-preserved
@@ -24,6 +24,6 @@ loop-seat-preserved c =
     let d = c.index-self-seat.result in
     let next = seat_next o.cash d k (omega (arith, o.wide, o.seated)) in
     let piece = seat_line (k + 1) (get_or o.cash (k + 1) d).marks 0 in
-    let pushed : shown c.push_seat_line.new.self ≡ added (shown c.loop-seat.text) piece = c.push_seat_line.ensures ∙ ap (λ m. added (shown c.loop-seat.text) (seat_line (k + 1) m 0)) (to_z-of_z w32 c.marks-in-loop-seat.result (record { sfits = c.marks-in-loop-seat.type-inv })) ∙ ap (λ m. added (shown c.loop-seat.text) (seat_line (k + 1) m 0)) c.marks-in-loop-seat.ensures in
+    let pushed : shown c.push_seat_line.new.self ≡ added (shown c.loop-seat.text) piece = c.push_seat_line.ensures ∙ ap (λ m. added (shown c.loop-seat.text) (seat_line (k + 1) m 0)) (to_z-of_z w32 c.marks-in-loop-seat.result (record { sfits = c.marks-in-loop-seat.type_inv })) ∙ ap (λ m. added (shown c.loop-seat.text) (seat_line (k + 1) m 0)) c.marks-in-loop-seat.ensures in
     added_then [] (shown c.loop-seat.text) (shown c.push_seat_line.new.self) (listed k (map hand_view o.cash)) piece c.loop-seat.invariant pushed
     ∙ ap (added []) (sym next)
