@@ -6,13 +6,13 @@ use Rattle.comparing.proofs.same_train_row.Goals as goal
 pub loop-place-preserved : goal.loop-place-preserved
 loop-place-preserved c =
     place_more no_trains c.args.one.now c.args.other.now c.loop-place.place c.index-one-place.result c.index-other-place.result c.requires c.loop-place-test.true c.index-one-place.is c.index-other-place.is
-    (c.is-same-trains.ensures.0 c.if-not-is-same-trains.false)
+    (c.is_same_trains.ensures.0 c.if-not-is_same_trains.false)
     c.loop-place.invariant
 
-pub returns-then-not-is-same-trains : goal.returns-then-not-is-same-trains
-returns-then-not-is-same-trains c =
+pub returns-then-not-is_same_trains : goal.returns-then-not-is_same_trains
+returns-then-not-is_same_trains c =
     no
-    (place_other no_trains c.args.one.now c.args.other.now c.loop-place.place c.index-one-place.result c.index-other-place.result c.requires c.loop-place-test.true c.index-one-place.is c.index-other-place.is c.if-not-is-same-trains.ensures)
+    (place_other no_trains c.args.one.now c.args.other.now c.loop-place.place c.index-one-place.result c.index-other-place.result c.requires c.loop-place-test.true c.index-one-place.is c.index-other-place.is c.if-not-is_same_trains.ensures)
 
 pub returns : goal.returns
 returns c = yes (all_places no_trains c.args.one.now c.args.other.now c.loop-place.place c.loop-place-test.false (let len = c.requires in let far = c.loop-place-test.false in omega (arith, len, far)) c.loop-place.invariant)

@@ -4,6 +4,6 @@ use Rattle.holdings.proofs.largest_other_of.Given as goal
 
 abbrev pub invariant-loop-seen : goal.invariant-loop-seen
 invariant-loop-seen l =
-    (l.best ≡ leader l.books l.company l.seat (l.-seen - 2))
-    × (l.next ≡ seat_after l.books l.seat (l.-seen - 1))
-    × (l.-seen - 2 ≤ l.books.players - 2)
+    (l.best ≡ leader l.books l.company l.seat (l._seen - 2))
+    × (l.next ≡ seat_after l.books l.seat (l._seen - 1))
+    × (l._seen - 2 ≤ l.books.players - 2)
