@@ -9,6 +9,7 @@ use hands::hand::Hand;
 use kinds::cash::Cash;
 use kinds::cash_floor::CashFloor;
 use listing::listing;
+use std::alloc::AllocGlobal;
 use std::process::Abort;
 use std::test::*;
 
@@ -21,39 +22,44 @@ fn fault(refusal: FileRefusal, place: usize) -> FileFault {
 }
 
 // What the listing of a file is.
-fn listed(rt: &HostRuntime, file: &[u8], text: &[u8]) -> Result<(), Fail> {
+fn listed(rt: &(impl Abort + AllocGlobal), file: &[u8], text: &[u8]) -> Result<(), Fail> {
     let found = listing(rt.alloc(), file)?;
-    assert!(found.as_bytes() == text);
+    assert!(rt; found.as_bytes() == text);
     Ok(())
 }
 
 // No cut of a record is one: neither at the start of a file nor after a close.
-fn every_cut(rt: &HostRuntime, bytes: &[u8]) -> Result<(), Fail> {
-    assert!(read(&[], 0) == Err(fault(FileRefusal::CutBody, 0)));
+fn every_cut(rt: &(impl Abort + AllocGlobal), bytes: &[u8]) -> Result<(), Fail> {
+    assert!(rt; read(&[], 0) == Err(fault(FileRefusal::CutBody, 0)));
     for cut in 1..bytes.len() {
-        assert!(read(&bytes[0..cut], 0) == Err(fault(FileRefusal::CutBody, 0)));
+        assert!(rt; read(&bytes[0..cut], 0) == Err(fault(FileRefusal::CutBody, 0)));
         listed(rt, &bytes[0..cut], b"refused 51 at 0\n")?;
         let mut file = vec![in rt.alloc(); CLOSE]?;
         file.extend_from_slice(&bytes[0..cut])?;
-        assert!(read(&file, 1) == Err(fault(FileRefusal::CutBody, 1)));
+        assert!(rt; read(&file, 1) == Err(fault(FileRefusal::CutBody, 1)));
         listed(rt, &file, b"0 close\nrefused 51 at 1\n")?;
     }
     Ok(())
 }
 
 // A record is written as these bytes and reads back from them, wherever they stand.
-fn one_record(rt: &HostRuntime, record: Record, bytes: &[u8], line: &[u8]) -> Result<(), Fail> {
+fn one_record(
+    rt: &(impl Abort + AllocGlobal),
+    record: Record,
+    bytes: &[u8],
+    line: &[u8],
+) -> Result<(), Fail> {
     let n = bytes.len();
-    assert!(0 < n && n < 7);
-    assert_eq!(record.size(), n);
+    assert!(rt; 0 < n && n < 7);
+    assert_eq!(rt; record.size(), n);
     let mut out = [MARK; 7];
-    assert!(write(record, &mut out) == Ok(n));
-    assert!(&out[0..n] == bytes);
-    assert!(&out[n..7] == &[MARK; 7][n..7]);
-    assert!(read(&out, 0) == Ok((record, n)));
+    assert!(rt; write(record, &mut out) == Ok(n));
+    assert!(rt; &out[0..n] == bytes);
+    assert!(rt; &out[n..7] == &[MARK; 7][n..7]);
+    assert!(rt; read(&out, 0) == Ok((record, n)));
     let mut file = vec![in rt.alloc(); CLOSE]?;
     file.extend_from_slice(&out)?;
-    assert!(read(&file, 1) == Ok((record, n + 1)));
+    assert!(rt; read(&file, 1) == Ok((record, n + 1)));
     every_cut(rt, bytes)?;
     listed(rt, bytes, line)
 }
@@ -131,10 +137,10 @@ fn operating_records(rt: HostRuntime) -> Result<(), Fail> {
 }
 
 // Every first byte but 1 to 10.
-fn unknown_kind(rt: &HostRuntime, kind: u8) -> Result<(), Fail> {
-    assert!(read(&[kind], 0) == Err(fault(FileRefusal::UnknownKind, 0)));
+fn unknown_kind(rt: &(impl Abort + AllocGlobal), kind: u8) -> Result<(), Fail> {
+    assert!(rt; read(&[kind], 0) == Err(fault(FileRefusal::UnknownKind, 0)));
     let file = [CLOSE, kind, 1, 1, 1, 1];
-    assert!(read(&file, 1) == Err(fault(FileRefusal::UnknownKind, 1)));
+    assert!(rt; read(&file, 1) == Err(fault(FileRefusal::UnknownKind, 1)));
     listed(rt, &file, b"0 close\nrefused 50 at 1\n")
 }
 

@@ -105,14 +105,16 @@ fn trains_move_by_kind(rt: HostRuntime) {
 #[test]
 fn openings_are_listed(rt: HostRuntime) {
     assert!(rt;
-        opening_text(1, 3).as_bytes() == b"bank 6600\nseat 1 800 0\nseat 2 800 0\nseat 3 800 0\n"
+        opening_text(1, 3).as_bytes()
+            == b"bank 6600\nseat 1 800 0\nseat 2 800 0\nseat 3 800 0\n".as_slice()
     );
     assert!(rt;
-        opening_text(2, 3).as_bytes() == b"bank 8200\nseat 1 600 0\nseat 2 600 0\nseat 3 600 0\n"
+        opening_text(2, 3).as_bytes()
+            == b"bank 8200\nseat 1 600 0\nseat 2 600 0\nseat 3 600 0\n".as_slice()
     );
-    assert!(rt; opening_text(2, 2).as_bytes() == b"refused 10\n");
-    assert!(rt; opening_text(1, 7).as_bytes() == b"refused 10\n");
-    assert!(rt; opening_text(1, 4_294_967_295).as_bytes() == b"refused 10\n");
-    assert!(rt; opening_text(9, 3).as_bytes() == b"refused 55\n");
-    assert!(rt; opening_text(0, 300).as_bytes() == b"refused 55\n");
+    assert!(rt; opening_text(2, 2).as_bytes() == b"refused 10\n".as_slice());
+    assert!(rt; opening_text(1, 7).as_bytes() == b"refused 10\n".as_slice());
+    assert!(rt; opening_text(1, 4_294_967_295).as_bytes() == b"refused 10\n".as_slice());
+    assert!(rt; opening_text(9, 3).as_bytes() == b"refused 55\n".as_slice());
+    assert!(rt; opening_text(0, 300).as_bytes() == b"refused 55\n".as_slice());
 }
