@@ -9,8 +9,8 @@ pub loop-before-preserved : goal.loop-before-preserved
 loop-before-preserved c =
     let start = c.args.trial.now in
     let l = c.loop-before in
-    let marks = c.dividend-of-marks in
-    let paid = c.in-ok-pay.ensures in
+    let marks = c.dividend_of-marks in
+    let paid = c.in_ok-pay.ensures in
     let order = dividend_order start.books l.trial.books c.args.company c.args.dividend l.before marks.result l.invariant.1 marks.ensures.value in (
       subst (Noted start c.pay.new.self) order (then_noted _ _ _ _ _ l.invariant.0 paid),
       ap (λ (z : Books). z.companies) paid.carried ∙ l.invariant.1,

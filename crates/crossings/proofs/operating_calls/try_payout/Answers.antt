@@ -5,6 +5,6 @@ use Rattle.crossings.proofs.operating_calls.try_payout.Goals as goal
 pub returns : goal.returns
 returns c =
     let s = c.args.trial.now.books in
-    let kept = c.share-of-company-kept in
-    then_made c.pay.result _ _ _ _ _ _ c.in-ok-pay-dividends.ensures c.pay.ensures
+    let kept = c.share_of_company-kept in
+    then_made c.pay.result _ _ _ _ _ _ c.in_ok-pay_dividends.ensures c.pay.ensures
     (payout_order s c.args.company kept.result c.in-Some.split c.args.split c.in-Some.is kept.ensures.value)

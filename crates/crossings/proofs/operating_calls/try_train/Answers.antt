@@ -7,7 +7,7 @@ pub returns : goal.returns
 returns g c =
     let b = g.B.RuleBook.meaning c.args.book.now in
     let s = c.args.trial.now.books in
-    let price = c.train-price-price in
-    then_made c.move-trains.result _ _ _ _ _ _ c.in-ok-get-help.ensures
-    (then_made c.move-trains.result _ _ _ _ _ _ c.in-ok-pay.ensures c.move-trains.ensures refl)
+    let price = c.train_price-price in
+    then_made c.move_trains.result _ _ _ _ _ _ c.in_ok-get_help.ensures
+    (then_made c.move_trains.result _ _ _ _ _ _ c.in_ok-pay.ensures c.move_trains.ensures refl)
     (train_order b s c.args.company c.args.kind price.result c.from.result price.ensures c.from.ensures)

@@ -8,8 +8,8 @@ returns g c =
     let b = g.B.RuleBook.meaning c.args.book.now in
     let s = c.args.trial.now.books in
     let a = c.args in
-    let marks = c.sale-marks-marks in
-    let exchanged = c.in-ok-exchange-before-sale.ensures in
+    let marks = c.sale_marks-marks in
+    let exchanged = c.in_ok-exchange_before_sale.ensures in
     then_made c.hand_over.result _ _ _ _ _ _ exchanged
-    (then_made c.hand_over.result _ _ _ _ _ _ c.in-ok-pay.ensures c.hand_over.ensures refl)
-    (sale_order b s c.exchange-before-sale.new.trial.books a.seat a.company a.tenths marks.result c.lowest.result.bits marks.ensures exchanged.carried (cc))
+    (then_made c.hand_over.result _ _ _ _ _ _ c.in_ok-pay.ensures c.hand_over.ensures refl)
+    (sale_order b s c.exchange_before_sale.new.trial.books a.seat a.company a.tenths marks.result c.lowest.result.bits marks.ensures exchanged.carried (cc))

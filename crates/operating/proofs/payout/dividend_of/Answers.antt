@@ -16,5 +16,5 @@ returns c =
     let ten = at_most_ten p in
     let d : c.args.dividend ≤ 65535 = omega arith in
     let t = tenths_at c.args.books.now c.args.company c.args.place in
-    let w = whole c.args.dividend t c.from.result c.tenths.result c.saturating-mul.result d c.tenths.ensures ten c.from.ensures c.saturating-mul.ensures (mul-le c.args.dividend t 65535 10 d ten) in
+    let w = whole c.args.dividend t c.from.result c.tenths.result c.saturating_mul.result d c.tenths.ensures ten c.from.ensures c.saturating_mul.ensures (mul-le c.args.dividend t 65535 10 d ten) in
     record { value = w.0; small = w.1 }

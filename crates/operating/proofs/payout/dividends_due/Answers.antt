@@ -12,6 +12,6 @@ more sum one k h g = omega arith
 pub loop-before-preserved : goal.loop-before-preserved
 loop-before-preserved c =
     let l = c.loop-before in (
-      due_more c.args.books.now c.args.company c.args.dividend l.before l.sum c.dividend-of-sum.result c.loop-before-test.true (c.dividend-of-sum.ensures.value ∙ ap (λ n. c.args.dividend * tenths_at c.args.books.now c.args.company n) (two l.before)) l.invariant.0,
-      more l.sum c.dividend-of-sum.result l.before l.invariant.1 c.dividend-of-sum.ensures.small,
+      due_more c.args.books.now c.args.company c.args.dividend l.before l.sum c.dividend_of-sum.result c.loop-before-test.true (c.dividend_of-sum.ensures.value ∙ ap (λ n. c.args.dividend * tenths_at c.args.books.now c.args.company n) (two l.before)) l.invariant.0,
+      more l.sum c.dividend_of-sum.result l.before l.invariant.1 c.dividend_of-sum.ensures.small,
     )
