@@ -14,7 +14,6 @@ use file_calls::call_of;
 use replay::card::Card;
 use rulebook::book::RuleBook;
 use std::alloc::{AllocError, Global};
-use std::fmt;
 use table::table::Table;
 use trace_text::push_crossing;
 
@@ -42,7 +41,11 @@ pub(crate) fn record_crossings<B: RuleBook>(
     }
 }
 
-pub(crate) fn push_crossings(text: &mut String, players: u8, crossings: &[Crossing]) -> fmt::Result
+pub(crate) fn push_crossings(
+    text: &mut String,
+    players: u8,
+    crossings: &[Crossing],
+) -> Result<(), AllocError>
     ensures { OnOk result (Pushed (string_bytes text.old) (string_bytes text.new) (crossing_lines players (listed crossings.now))) }
 {
     for crossing in crossings {

@@ -16,8 +16,7 @@ use listing::push_record;
 use replay::card::Card;
 use replay::records::make_record;
 use rulebook::book::RuleBook;
-use std::alloc::Global;
-use std::fmt;
+use std::alloc::{AllocError, Global};
 use table::table::Table;
 use trace_text::push_refusal;
 
@@ -27,7 +26,7 @@ fn push_granted(
     record: Record,
     players: u8,
     crossings: &[Crossing],
-) -> fmt::Result
+) -> Result<(), AllocError>
     ensures { OnOk result (Pushed (string_bytes text.old) (string_bytes text.new) (line place (view «record») ++ crossing_lines players (listed crossings.now))) }
 {
     push_record(text, place, record)?;
@@ -42,14 +41,12 @@ fn push_step<B: RuleBook>(
     card: Card,
     place: usize,
     record: Record,
-) -> Result<Option<Card>, fmt::Error>
+) -> Result<Option<Card>, AllocError>
     ensures step { IfOk result (λ o. Stepped (B.meaning table.old.book) table.old.books (number_of card) place (view «record») (string_bytes text.old) (string_bytes text.new) (held table.new.books o)) }
     ensures same { table.new.book ≡ table.old.book }
 {
     let players = table.books().players;
-    let Ok(crossings) = record_crossings(heap, table, &card, record) else {
-        return Err(fmt::Error);
-    };
+    let crossings = record_crossings(heap, table, &card, record)?;
     match make_record(table, card, place, record) {
         Ok(next) => {
             push_granted(text, place, record, players, &crossings)?;
@@ -70,7 +67,7 @@ pub(crate) fn push_steps<B: RuleBook>(
     card: Card,
     file: &[u8],
     from: usize,
-) -> fmt::Result
+) -> Result<(), AllocError>
     ensures { OnOk result (Pushed (string_bytes text.old) (string_bytes text.new) (traced_from (B.meaning table.old.book) table.old.books (number_of card) file.now from)) }
 {
     let mut card = card;

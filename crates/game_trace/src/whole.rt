@@ -7,10 +7,9 @@ use crate::steps::push_steps;
 use listing::push_record;
 use replay::game::Game;
 use std::alloc::{AllocError, Global};
-use std::fmt;
 use trace_text::push_refusal;
 
-fn push_trace(heap: Global, text: &mut String, file: &[u8]) -> fmt::Result
+fn push_trace(heap: Global, text: &mut String, file: &[u8]) -> Result<(), AllocError>
     ensures { OnOk result (Pushed (string_bytes text.old) (string_bytes text.new) (trace_of file.now)) }
 {
     match start_game(file) {
@@ -29,8 +28,6 @@ pub fn trace(heap: Global, file: &[u8]) -> Result<String, AllocError>
     ensures { IfOk result (λ s. string_bytes s ≡ trace_of file.now) }
 {
     let mut text = String::new(heap);
-    match push_trace(heap, &mut text, file) {
-        Ok(()) => Ok(text),
-        Err(_) => Err(AllocError),
-    }
+    push_trace(heap, &mut text, file)?;
+    Ok(text)
 }

@@ -8,7 +8,7 @@ use crate::places::{cash_place_at, paper_place_at, train_place_at};
 use crossings::crossing::Crossing;
 use kinds::certificate_set::CertificateSet;
 use kinds::train_load::TrainLoad;
-use std::fmt;
+use std::alloc::AllocError;
 
 fn push_cash(
     text: &mut String,
@@ -16,7 +16,7 @@ fn push_cash(
     giver: usize,
     receiver: usize,
     marks: u32,
-) -> fmt::Result
+) -> Result<(), AllocError>
     ensures { OnOk result (Pushed (string_bytes text.old) (string_bytes text.new) (cash_line players giver receiver marks)) }
 {
     let giver = cash_place_at(players, giver);
@@ -25,7 +25,7 @@ fn push_cash(
 }
 
 // The numbers of a set's certificates, with a blank before each.
-fn push_numbers(text: &mut String, certificates: CertificateSet) -> fmt::Result
+fn push_numbers(text: &mut String, certificates: CertificateSet) -> Result<(), AllocError>
     ensures { OnOk result (Pushed (string_bytes text.old) (string_bytes text.new) (numbers_from certificates.bits 0 16)) }
 {
     for number in 0..16u8 {
@@ -34,7 +34,11 @@ fn push_numbers(text: &mut String, certificates: CertificateSet) -> fmt::Result
     Ok(())
 }
 
-fn push_number(text: &mut String, certificates: CertificateSet, number: u8) -> fmt::Result
+fn push_number(
+    text: &mut String,
+    certificates: CertificateSet,
+    number: u8,
+) -> Result<(), AllocError>
     requires { number < 16 }
     ensures { OnOk result (Pushed (string_bytes text.old) (string_bytes text.new) (number_words certificates.bits number)) }
 {
@@ -50,7 +54,7 @@ fn push_papers(
     giver: usize,
     receiver: usize,
     certificates: CertificateSet,
-) -> fmt::Result
+) -> Result<(), AllocError>
     ensures { OnOk result (Pushed (string_bytes text.old) (string_bytes text.new) (papers_line company giver receiver certificates.bits)) }
 {
     let giver = paper_place_at(giver);
@@ -63,7 +67,12 @@ fn push_papers(
     writeln!(text)
 }
 
-fn push_trains(text: &mut String, giver: usize, receiver: usize, load: TrainLoad) -> fmt::Result
+fn push_trains(
+    text: &mut String,
+    giver: usize,
+    receiver: usize,
+    load: TrainLoad,
+) -> Result<(), AllocError>
     ensures { OnOk result (Pushed (string_bytes text.old) (string_bytes text.new) (trains_line giver receiver load)) }
 {
     let giver = train_place_at(giver);
@@ -77,7 +86,7 @@ fn push_trains(text: &mut String, giver: usize, receiver: usize, load: TrainLoad
 }
 
 // Two blanks, what crosses, and the end of the line. The number of players tells seats and companies apart.
-pub fn push_crossing(text: &mut String, players: u8, crossing: Crossing) -> fmt::Result
+pub fn push_crossing(text: &mut String, players: u8, crossing: Crossing) -> Result<(), AllocError>
     ensures { OnOk result (Pushed (string_bytes text.old) (string_bytes text.new) (crossing_line players (view crossing))) }
 {
     match crossing {

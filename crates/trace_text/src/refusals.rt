@@ -7,9 +7,9 @@ use crate::words::{words_of_call, words_of_carry, words_of_file, words_of_table}
 use faults::file::{FileFault, FileRefusal};
 use faults::table::{TableFault, TableRefusal};
 use hands::fault::CarryFault;
-use std::fmt;
+use std::alloc::AllocError;
 
-fn push_carry(text: &mut String, fault: CarryFault) -> fmt::Result
+fn push_carry(text: &mut String, fault: CarryFault) -> Result<(), AllocError>
     ensures { OnOk result (Pushed (string_bytes text.old) (string_bytes text.new) (carry_line fault)) }
 {
     let (giver, receiver) = (fault.giver, fault.receiver);
@@ -17,7 +17,7 @@ fn push_carry(text: &mut String, fault: CarryFault) -> fmt::Result
     write!(text, "carry from {giver} to {receiver}: {words}")
 }
 
-fn push_table_words(text: &mut String, refusal: TableRefusal) -> fmt::Result
+fn push_table_words(text: &mut String, refusal: TableRefusal) -> Result<(), AllocError>
     ensures { OnOk result (Pushed (string_bytes text.old) (string_bytes text.new) (table_words refusal)) }
 {
     match words_of_table(refusal) {
@@ -26,7 +26,7 @@ fn push_table_words(text: &mut String, refusal: TableRefusal) -> fmt::Result
     }
 }
 
-fn push_table(text: &mut String, fault: TableFault) -> fmt::Result
+fn push_table(text: &mut String, fault: TableFault) -> Result<(), AllocError>
     ensures { OnOk result (Pushed (string_bytes text.old) (string_bytes text.new) (table_line fault)) }
 {
     let call = words_of_call(fault.call);
@@ -34,7 +34,7 @@ fn push_table(text: &mut String, fault: TableFault) -> fmt::Result
     push_table_words(text, fault.refusal)
 }
 
-fn push_file_words(text: &mut String, refusal: FileRefusal) -> fmt::Result
+fn push_file_words(text: &mut String, refusal: FileRefusal) -> Result<(), AllocError>
     ensures { OnOk result (Pushed (string_bytes text.old) (string_bytes text.new) (file_words refusal)) }
 {
     match words_of_file(refusal) {
@@ -43,7 +43,7 @@ fn push_file_words(text: &mut String, refusal: FileRefusal) -> fmt::Result
     }
 }
 
-pub fn push_refusal(text: &mut String, fault: FileFault) -> fmt::Result
+pub fn push_refusal(text: &mut String, fault: FileFault) -> Result<(), AllocError>
     ensures { OnOk result (Pushed (string_bytes text.old) (string_bytes text.new) (refusal_line fault)) }
 {
     let number = fault.refusal.number();

@@ -12,10 +12,10 @@ returns c =
     let head = refused_at number.result fault.place in
     let start = string_bytes c.args.text.now in
     let headed = string_bytes c.write.new.self in
-    let told = string_bytes c.push-file-words.new.text in
+    let told = string_bytes c.push_file_words.new.text in
     let whole = string_bytes c.writeln.new.self in
-    let first : Pushed start headed head = record { joined = c.in-ok-write.ensures.bytes } in
+    let first : Pushed start headed head = record { joined = c.in_ok-write.ensures.bytes } in
     let last = written_made c.writeln.result told whole (codes "\n") (codes "\n") c.writeln.ensures.bytes refl in
-    let rest = then_made c.writeln.result headed told whole words (codes "\n") (words ++ codes "\n") c.in-ok-push-file-words.ensures last refl in
+    let rest = then_made c.writeln.result headed told whole words (codes "\n") (words ++ codes "\n") c.in_ok-push_file_words.ensures last refl in
     then_made c.writeln.result start headed whole head (words ++ codes "\n") (refusal_line fault) first rest
     (ap (λ n. refused_at n fault.place ++ (words ++ codes "\n")) number.ensures)
