@@ -82,7 +82,3 @@ module _ (b : Book) (law : Lawful b) where
 
     pub kept_bounded : (c : Call) (t : Books) → t ≡ after b s c → Bounded t
     kept_bounded c t e = subst Bounded (sym e) (stays_bounded c)
-
-    -- as a table keeps them
-    pub kept_ranges : (c : Call) (t : Books) → t ≡ after b s c → (t.players ≤ 6) × ((t.round ≤ 9999) × (((n : ℕ) → t.operating.company ≡ Some n → n ≤ 8) × Unit {0}))
-    kept_ranges c t e = let h = kept_bounded c t e in (h.seated, (h.counted, (h.numbered, tt)))

@@ -1,4 +1,4 @@
-use Rattle.std.proofs.Common.{◌≡◌, Bool, true, false, cond, sym, ap, ◌∙◌, w32, to_z, of_z}
+use Rattle.std.proofs.Common.{◌≡◌, Bool, true, false, cond, rules, sym, ap, ◌∙◌, w32, to_z, of_z}
 use Rattle.std.proofs.lemmas.Int.{to_z-of_z}
 use denote.Enum.Bare.{sameb, same_true, same_false}
 use Rattle.kinds.specs.contracts.cash_floor.CashFloor.{the_type}
@@ -12,7 +12,7 @@ pub returns-then-marks : goal.returns-then-marks
 returns-then-marks c = no (λ e. c.if-marks.true (ap (of_z w32) (c.marks.ensures ∙ ap (λ (h : Cash). h.marks) e ∙ sym c.marks-2.ensures)))
 
 told : (r : Bool) (f g : CashFloor) → r ≡ sameb the_type f g → cond r (f ≡ g) (f ≡ g → ⊥)
-told true f g e = same_true the_type (tt, (tt, tt)) f g (sym e)
+told true f g e = same_true the_type (search rules) f g (sym e)
 told false f g e = same_false the_type f g (sym e)
 
 pub returns : goal.returns

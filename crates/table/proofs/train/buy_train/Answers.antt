@@ -4,5 +4,5 @@ use Rattle.table.proofs.train.buy_train.Goals as goal
 pub returns : goal.returns
 returns g c =
     let b = g.B.RuleBook.meaning c.args.book.now in
-    let price = c.train-price-price in
-    train_bought b c.args.books.now c.get-help.new.books c.cross-cash.new.books c.cross-trains.new.books c.args.company c.args.kind price.result c.from.result price.ensures c.from.ensures c.get-help.ensures c.cross-cash.ensures c.cross-trains.ensures
+    let price = c.train_price-price in
+    train_bought b c.args.books.now c.get_help.new.books c.cross_cash.new.books c.cross_trains.new.books c.args.company c.args.kind price.result c.from.result price.ensures c.from.ensures c.get_help.ensures c.cross_cash.ensures c.cross_trains.ensures

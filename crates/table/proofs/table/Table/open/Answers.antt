@@ -9,7 +9,7 @@ use Rattle.table.proofs.table.Table.open.Goals as goal
 pub returns : goal.returns
 returns g c =
     let b = g.B.RuleBook.meaning c.args.book in (
-      ap (λ (a : Result Books TableRefusal). in_call Open a) (opening_passed b c.args.players _ _ _ c.open-books.ensures c.in_call.ensures c.in-ok-books.was),
+      ap (λ (a : Result Books TableRefusal). in_call Open a) (opening_passed b c.args.players _ _ _ c.open_books.ensures c.in_call.ensures c.in_ok-books.was),
       refl,
       refl,
     )

@@ -1,12 +1,14 @@
 use Rattle.ledger.specs.declared.call.Call.TheVariants.{Sell}
-use Rattle.table.proofs.Ranges.{kept_ranges}
+use Rattle.table.proofs.Ranges.{kept_bounded}
 use Rattle.table.proofs.table.Table.sell.Goals as goal
 
-pub invariant-of-self : goal.invariant-of-self
-invariant-of-self g c =
+pub invariant_of-self : goal.invariant_of-self
+invariant_of-self g c =
     let t = c.args.self.now in
-    kept_ranges (g.B.RuleBook.meaning t.book) (g.met.B.RuleBook.lawful t.book) t.books
+    let ranges =
+    kept_bounded (g.B.RuleBook.meaning t.book) (g.met.B.RuleBook.lawful t.book) t.books
     (record { seated = t.seated; counted = t.counted; numbered = t.numbered })
     (Sell c.args.card.now.number c.args.seat c.args.company c.args.tenths)
-    c.call-sell.new.books
-    c.call-sell.ensures.made
+    c.call_sell.new.books
+    c.call_sell.ensures.made in
+    record { seated = ranges.seated; counted = ranges.counted; numbered = ranges.numbered }

@@ -1,12 +1,14 @@
 use Rattle.ledger.specs.declared.call.Call.TheVariants.{Train}
-use Rattle.table.proofs.Ranges.{kept_ranges}
+use Rattle.table.proofs.Ranges.{kept_bounded}
 use Rattle.table.proofs.table.Table.train.Goals as goal
 
-pub invariant-of-self : goal.invariant-of-self
-invariant-of-self g c =
+pub invariant_of-self : goal.invariant_of-self
+invariant_of-self g c =
     let t = c.args.self.now in
-    kept_ranges (g.B.RuleBook.meaning t.book) (g.met.B.RuleBook.lawful t.book) t.books
+    let ranges =
+    kept_bounded (g.B.RuleBook.meaning t.book) (g.met.B.RuleBook.lawful t.book) t.books
     (record { seated = t.seated; counted = t.counted; numbered = t.numbered })
     (Train c.args.card.now.number c.args.company c.args.kind)
-    c.call-train.new.books
-    c.call-train.ensures.made
+    c.call_train.new.books
+    c.call_train.ensures.made in
+    record { seated = ranges.seated; counted = ranges.counted; numbered = ranges.numbered }
