@@ -13,5 +13,5 @@ returns c =
     let place = c.args.fault.place in
     let line = refused_at_line n place in
     let short = refused_at_line_bound n place (omega arith) (omega arith) in
-    let written : shown c.push-refused-at-line.new.self ≡ refused_at_line (file_number c.args.fault.refusal) place = c.push-refused-at-line.ensures ∙ ap (λ t. added t line) c.empty-text.ensures ∙ added_fits [] line (omega (arith, short)) ∙ ap (λ m. refused_at_line m place) c.number.ensures in
+    let written : shown c.push_refused_at_line.new.self ≡ refused_at_line (file_number c.args.fault.refusal) place = c.push_refused_at_line.ensures ∙ ap (λ t. added t line) c.empty-text.ensures ∙ added_fits [] line (omega (arith, short)) ∙ ap (λ m. refused_at_line m place) c.number.ensures in
     c.hand_over.ensures ∙ ap (λ t. handed_over t c.args.buffer.now) written

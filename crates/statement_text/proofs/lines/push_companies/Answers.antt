@@ -10,5 +10,5 @@ loop-before-init g c = nothing_added c.args.text.now
 pub loop-before-preserved : goal.loop-before-preserved
 loop-before-preserved g c =
     line_added (company_line_of (g.B.RuleBook.meaning c.args.book.now) c.args.books.now) c.loop-before.before
-    (shown c.args.text.now) (shown c.loop-before.text) (shown c.push-company.new.text)
-    c.loop-before.invariant c.push-company.ensures
+    (shown c.args.text.now) (shown c.loop-before.text) (shown c.push_company.new.text)
+    c.loop-before.invariant c.push_company.ensures

@@ -10,5 +10,5 @@ loop-before-init g c = nothing_added c.args.text.now
 pub loop-before-preserved : goal.loop-before-preserved
 loop-before-preserved g c =
     line_added (seat_line_of (g.B.RuleBook.meaning c.args.book.now) c.args.books.now) c.loop-before.before
-    (shown c.args.text.now) (shown c.loop-before.text) (shown c.push-seat.new.text)
-    c.loop-before.invariant c.push-seat.ensures
+    (shown c.args.text.now) (shown c.loop-before.text) (shown c.push_seat.new.text)
+    c.loop-before.invariant c.push_seat.ensures
