@@ -1,6 +1,6 @@
 // A card has the number of the round that it was handed out for.
-pub mod operating;
-pub mod stock;
+pub mod operating_card;
+pub mod stock_card;
 
-pub use operating::OperatingCard;
-pub use stock::StockCard;
+pub use operating_card::OperatingCard;
+pub use stock_card::StockCard;

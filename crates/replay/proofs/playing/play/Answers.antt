@@ -17,14 +17,14 @@ loop-place-preserved g c =
     let card = number_of c.loop-place.card in
     let got = c.in-Ok.ensures in
     let e = view c.in-Ok.record in
-    let made = c.in-ok-card.ensures.played ∙ ap (λ k. record_played (g.B.RuleBook.meaning k) t.books card c.loop-place.place e) i.0 in (
-      c.make-record.ensures.same ∙ i.0,
+    let made = c.in_ok-card-in-Ok.ensures.played ∙ ap (λ k. record_played (g.B.RuleBook.meaning k) t.books card c.loop-place.place e) i.0 in (
+      c.make_record.ensures.same ∙ i.0,
       granted_left (g.B.RuleBook.meaning c.args.table.now.book) c.args.file.now c.loop-place.place i.1.0 i.1.1 t.books card _ i.1.2
-          c.loop-place-test.true e c.in-Ok.next got.value got.within.0 c.make-record.new.table.books (number_of c.in-ok-card.card) made,
+          c.loop-place-test.true e c.in-Ok.next got.value got.within.0 c.make_record.new.table.books (number_of c.in_ok-card-in-Ok.card) made,
     )
 
-pub returns-in-err-card : goal.returns-in-err-card
-returns-in-err-card g c =
+pub returns-in_err-card-in-Ok : goal.returns-in_err-card-in-Ok
+returns-in_err-card-in-Ok g c =
     let b = g.B.RuleBook.meaning c.args.table.now.book in
     let s = c.args.table.now.books in
     let file = c.args.file.now in
@@ -33,11 +33,11 @@ returns-in-err-card g c =
     let card = number_of c.loop-place.card in
     let got = c.in-Ok.ensures in
     let e = view c.in-Ok.record in
-    let made = c.in-err-card.ensures.played ∙ ap (λ k. record_played (g.B.RuleBook.meaning k) t.books card c.loop-place.place e) i.0 in
-    let back = c.in-err-card.field-0.0 in
-    let p = err_from_is_err_and c.from-residual.result c.from-residual.ensures.1 in
-    let end = refused_left b file c.loop-place.place i.1.0 i.1.1 t.books card _ i.1.2 c.loop-place-test.true e c.in-Ok.next got.value got.within.0 c.make-record.new.table.books (number_of back.1) back.0 made in
-    rw (p.1, p.2) (record { played = end; same = c.make-record.ensures.same ∙ i.0; life = ends_led b s (number_of c.args.card) file c.args.from _ end; card = ends_right b s (number_of c.args.card) file c.args.from _ end })
+    let made = c.in_err-card-in-Ok.ensures.played ∙ ap (λ k. record_played (g.B.RuleBook.meaning k) t.books card c.loop-place.place e) i.0 in
+    let back = c.in_err-card-in-Ok.field-0.0 in
+    let p = err_from_is_err_and c.from_residual.result c.from_residual.ensures.1 in
+    let end = refused_left b file c.loop-place.place i.1.0 i.1.1 t.books card _ i.1.2 c.loop-place-test.true e c.in-Ok.next got.value got.within.0 c.make_record.new.table.books (number_of back.1) back.0 made in
+    rw (p.1, p.2) (record { played = end; same = c.make_record.ensures.same ∙ i.0; life = ends_led b s (number_of c.args.card) file c.args.from _ end; card = ends_right b s (number_of c.args.card) file c.args.from _ end })
 
 pub returns-in-Err : goal.returns-in-Err
 returns-in-Err g c =
