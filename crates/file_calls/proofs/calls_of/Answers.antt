@@ -1,4 +1,4 @@
-use Rattle.std.proofs.Common.{◌++◌, length, vec_items, refl, ap, ◌∙◌, arith, rules}
+use Rattle.std.proofs.Common.{◌++◌, length, vec_items, refl, ap, ◌∙◌, arith}
 use Rattle.entries.specs.Entry.{view}
 use Rattle.entries.specs.Whole.{reading_by}
 use Rattle.file_calls.specs.Calls.{calls_from, listed}
@@ -9,8 +9,8 @@ use Rattle.file_calls.proofs.calls_of.Goals as goal
 pub loop-place-init : goal.loop-place-init
 loop-place-init c = (omega arith, (length c.args.file.now, omega arith, ap (λ l. l ++ calls_from 1 (reading_by (length c.args.file.now) c.args.file.now 0).0) c.new-calls.ensures.items))
 
-pub returns-in-err-push-call : goal.returns-in-err-push-call
-returns-in-err-push-call c = record { calls = search rules; lives = life_of_file }
+pub returns-in_err-push_call-in-Ok-clause-lives : goal.returns-in_err-push_call-in-Ok-clause-lives
+returns-in_err-push_call-in-Ok-clause-lives c = life_of_file
 
 pub loop-place-preserved : goal.loop-place-preserved
 loop-place-preserved c =
@@ -18,7 +18,7 @@ loop-place-preserved c =
     let i = c.loop-place.invariant.1 in
     let got = c.in-Ok.ensures in (
       got.within.1,
-      record_left file c.loop-place.place i.0 i.1 (vec_items c.loop-place.calls) _ c.loop-place.card i.2 c.loop-place-test.true (view c.in-Ok.record) c.in-Ok.next got.value got.within.0 _ (c.in-ok-push-call.ensures ∙ ap (λ o. vec_items c.loop-place.calls ++ listed o) c.call_of.ensures) _ c.next-card-card.ensures,
+      record_left file c.loop-place.place i.0 i.1 (vec_items c.loop-place.calls) _ c.loop-place.card i.2 c.loop-place-test.true (view c.in-Ok.record) c.in-Ok.next got.value got.within.0 _ (c.in_ok-push_call-in-Ok.ensures ∙ ap (λ o. vec_items c.loop-place.calls ++ listed o) c.call_of.ensures) _ c.next_card-card.ensures,
     )
 
 pub returns-in-Err : goal.returns-in-Err
