@@ -14,9 +14,9 @@ loop-crossing-preserved c =
     let all = c.args.crossings.now in
     let i = c.loop-crossing.crossing-index in
     let start = string_bytes c.args.text.now in
-    let later = string_bytes c.push-crossing.new.text in
+    let later = string_bytes c.push_crossing.new.text in
     let more = one_more players all i (Cash 0 0 0) c.loop-crossing-test.true ∙ ap (λ n. crossing_lines players (listed (take n all))) (sym (add-one i)) in
-    subst (Pushed start later) more (then_pushed start (string_bytes c.loop-crossing.text) later _ _ c.loop-crossing.invariant c.in-ok-push-crossing.ensures)
+    subst (Pushed start later) more (then_pushed start (string_bytes c.loop-crossing.text) later _ _ c.loop-crossing.invariant c.in_ok-push_crossing.ensures)
 
 pub returns : goal.returns
 returns c =

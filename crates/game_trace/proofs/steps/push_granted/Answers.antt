@@ -13,7 +13,7 @@ returns c =
     let head = line a.place (view a.record) in
     let rest = crossing_lines a.players (listed a.crossings.now) in
     let start = string_bytes a.text.now in
-    let headed = string_bytes c.push-record.new.text in
-    let whole = string_bytes c.push-crossings.new.text in
-    let first : Pushed start headed head = record { joined = c.in-ok-push-record.ensures } in
-    then_made c.push-crossings.result start headed whole head rest (head ++ rest) first c.push-crossings.ensures refl
+    let headed = string_bytes c.push_record.new.text in
+    let whole = string_bytes c.push_crossings.new.text in
+    let first : Pushed start headed head = record { joined = c.in_ok-push_record.ensures } in
+    then_made c.push_crossings.result start headed whole head rest (head ++ rest) first c.push_crossings.ensures refl

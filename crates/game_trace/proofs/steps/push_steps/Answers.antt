@@ -10,8 +10,8 @@ use Rattle.game_trace.proofs.steps.push_steps.Goals as goal
 pub loop-place-init : goal.loop-place-init
 loop-place-init g c = (refl, (length c.args.file.now, omega arith, refl))
 
-pub returns-in-default : goal.returns-in-default
-returns-in-default g c =
+pub returns-in_default : goal.returns-in_default
+returns-in_default g c =
     let b = g.B.RuleBook.meaning c.args.table.now.book in
     let file = c.args.file.now in
     let l = c.loop-place in
@@ -20,12 +20,12 @@ returns-in-default g c =
     let all = string_bytes c.args.text.now ++ traced_from b c.args.table.now.books (number_of c.args.card) file c.args.from in
     let got = c.in-Ok.ensures in
     let e = view c.in-Ok.record in
-    let later = string_bytes c.push-step.new.text in
-    let next = held c.push-step.new.table.books c.in-ok-held.field-0 in
-    let step = subst (λ k. Stepped (g.B.RuleBook.meaning k) l.table.books (number_of l.card) l.place e text later next) l.invariant.0 c.in-ok-held.ensures.step in
+    let later = string_bytes c.push_step.new.text in
+    let next = held c.push_step.new.table.books c.in_ok-held-in-Ok.field-0 in
+    let step = subst (λ k. Stepped (g.B.RuleBook.meaning k) l.table.books (number_of l.card) l.place e text later next) l.invariant.0 c.in_ok-held-in-Ok.ensures.step in
     record {
       joined = refused_left b file l.place i.0 i.1 l.table.books (number_of l.card) text all i.2 c.loop-place-test.true e c.in-Ok.next got.value got.within.0 later next step
-          (ap (held c.push-step.new.table.books) c.in-default.is);
+          (ap (held c.push_step.new.table.books) c.in_default.is);
     }
 
 pub loop-place-preserved : goal.loop-place-preserved
@@ -38,11 +38,11 @@ loop-place-preserved g c =
     let all = string_bytes c.args.text.now ++ traced_from b c.args.table.now.books (number_of c.args.card) file c.args.from in
     let got = c.in-Ok.ensures in
     let e = view c.in-Ok.record in
-    let later = string_bytes c.push-step.new.text in
-    let books = c.push-step.new.table.books in
-    let next = held books c.in-ok-held.field-0 in
-    let step = subst (λ k. Stepped (g.B.RuleBook.meaning k) l.table.books (number_of l.card) l.place e text later next) l.invariant.0 c.in-ok-held.ensures.step in (
-      c.push-step.ensures.same ∙ l.invariant.0,
+    let later = string_bytes c.push_step.new.text in
+    let books = c.push_step.new.table.books in
+    let next = held books c.in_ok-held-in-Ok.field-0 in
+    let step = subst (λ k. Stepped (g.B.RuleBook.meaning k) l.table.books (number_of l.card) l.place e text later next) l.invariant.0 c.in_ok-held-in-Ok.ensures.step in (
+      c.push_step.ensures.same ∙ l.invariant.0,
       granted_left b file l.place i.0 i.1 l.table.books (number_of l.card) text all i.2 c.loop-place-test.true e c.in-Ok.next got.value got.within.0 later next step books (number_of c.in-Some.held)
           (ap (held books) c.in-Some.is),
     )
@@ -56,7 +56,7 @@ returns-in-Err g c =
     let start = string_bytes c.args.text.now in
     let all = traced_from b c.args.table.now.books (number_of c.args.card) file c.args.from in
     let left = fault_left b file l.place i.0 i.1 l.table.books (number_of l.card) (string_bytes l.text) (start ++ all) i.2 c.loop-place-test.true c.in-Err.fault c.in-Err.ensures.value in
-    last_made c.push-refusal.result start (string_bytes l.text) (string_bytes c.push-refusal.new.text) (refusal_line c.in-Err.fault) all c.push-refusal.ensures left
+    last_made c.push_refusal.result start (string_bytes l.text) (string_bytes c.push_refusal.new.text) (refusal_line c.in-Err.fault) all c.push_refusal.ensures left
 
 pub returns : goal.returns
 returns g c =
