@@ -1,10 +1,10 @@
 -- What is printed for a game file.
-use Rattle.std.specs.Prelude.{ℕ, List, [], Some, None, Ok, Err, Option, Result}
+use Rattle.std.specs.Prelude.{ℕ, List, [], Some, None, Option}
 use Rattle.faults.specs.Numbers.{file_number}
 use Rattle.faults.specs.declared.file.FileFault.{FileFault}
 use Rattle.text.specs.Lines.{refused_at_line}
 use Rattle.catalogue.specs.Printed.{printed_meaning}
-use Rattle.replay.specs.Whole.{SeenGame, Replayed, replayed}
+use Rattle.replay.specs.Whole.{SeenGame, replayed}
 use Rattle.statement_text.specs.Statement.{statement_of}
 
 abbrev pub game_text : Option SeenGame → List ℕ
@@ -18,8 +18,3 @@ text_of game (Some fault) = refused_at_line (file_number fault.refusal) fault.pl
 
 abbrev pub console_text : List ℕ → List ℕ
 console_text file = text_of (replayed file).game (replayed file).fault
-
--- the answer as a plain number, and the buffer
-abbrev pub length_or_nought : Result ℕ FileFault × List ℕ → ℕ × List ℕ
-length_or_nought (Ok n, out) = (n, out)
-length_or_nought (Err fault, out) = (0, out)

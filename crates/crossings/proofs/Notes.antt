@@ -1,5 +1,5 @@
 -- Crossings noted one after the other.
-use Rattle.std.proofs.Common.{◌≡◌, List, [], ◌∷◌, ◌++◌, IfOk, Ok, Err, Result, sym, refl, ap, ◌∙◌, subst}
+use Rattle.std.proofs.Common.{◌≡◌, List, [], ◌∷◌, ◌++◌, IfOk, Ok, Err, Result, sym, ap, ◌∙◌, subst}
 use Rattle.std.proofs.lemmas.List.{append_assoc, map-append}
 use Rattle.ledger.specs.Crossings.{Crossing as Rule-crossing, all_crossed}
 use Rattle.ledger.proofs.Crossed.{crossed_append}

@@ -1,5 +1,5 @@
 -- One seat more is dealt its opening cash.
-use Rattle.std.proofs.Common.{◌≡◌, ℕ, zero, suc, ◌+◌, ◌-◌, ◌*◌, ◌<◌, ◌≤◌, true, ◌≢◌, List, [], ◌∷◌, ◌++◌, map, length, set, replicate, ℤ, pos, ◌+ℤ◌, ◌-ℤ◌, ◌≤ℤ◌, Some, None, Ok, Err, Result, sym, refl, ap, ◌∙◌, subst, le_trans, mul-le-mul_right, suc-mul, zero-mul, add-one, arith}
+use Rattle.std.proofs.Common.{◌≡◌, ℕ, suc, ◌+◌, ◌-◌, ◌*◌, ◌<◌, ◌≤◌, true, List, [], ◌∷◌, ◌++◌, map, length, set, replicate, pos, ◌+ℤ◌, ◌-ℤ◌, Some, Ok, Result, sym, ap, ◌∙◌, le_trans, mul-le-mul_right, suc-mul, zero-mul, add-one, arith}
 use Rattle.std.proofs.lemmas.List.{map-set, length-map, length-append, length-replicate}
 use Rattle.std.proofs.lemmas.Int.{ints}
 use Rattle.std.specs.List.{slice_get}
@@ -9,7 +9,6 @@ use Rattle.hands.proofs.Ways.{granted}
 use Rattle.kinds.specs.Cash.{cash, can_give, can_take, given, taken}
 use Rattle.kinds.specs.Floor.{floor_marks}
 use Rattle.kinds.specs.declared.cash.Cash.{Cash}
-use Rattle.kinds.specs.declared.cash_floor.CashFloor.{CashFloor}
 use Rattle.kinds.specs.declared.cash_floor.CashFloor.TheVariants.{Zero, Overdraft}
 use Rattle.kinds.specs.Marks.{to_le, given_marks, taken_marks, given_keeps, taken_keeps}
 use Rattle.dealing.specs.Opening.{HandView, hand_view, bank_with, seat_with, undealt_row, dealt_row}

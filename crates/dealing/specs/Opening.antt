@@ -1,5 +1,5 @@
 -- What every hand holds when the opening cash is dealt.
-use Rattle.std.specs.Prelude.{ℕ, zero, suc, ◌-◌, ◌*◌, List, [], ◌∷◌, ◌++◌, map, replicate, ℤ, pos, Some, None, Ok, Err, Option, Result}
+use Rattle.std.specs.Prelude.{ℕ, zero, suc, ◌-◌, ◌*◌, List, ◌∷◌, ◌++◌, map, replicate, ℤ, pos, Some, None, Ok, Err, Option, Result}
 use Rattle.kinds.specs.declared.cash.Cash.{Cash}
 use Rattle.kinds.specs.declared.cash_floor.CashFloor.{CashFloor}
 use Rattle.kinds.specs.declared.cash_floor.CashFloor.TheVariants.{Zero, Overdraft}

@@ -1,12 +1,11 @@
 -- A record reads back from its writing, and from nothing else.
-use Rattle.std.proofs.Common.{◌≡◌, ℕ, ◌+◌, ◌*◌, ◌/◌, ◌%◌, ◌<◌, ◌≤◌, Bool, true, false, cond, eqb, ltb, List, [], ◌∷◌, ◌++◌, length, get_or, take, drop, Some, None, Ok, Err, Option, Result, sym, refl, ap, ◌∙◌, subst, arith}
+use Rattle.std.proofs.Common.{◌≡◌, ℕ, ◌+◌, ◌*◌, ◌/◌, ◌%◌, ◌<◌, ◌≤◌, cond, eqb, ltb, List, [], ◌∷◌, ◌++◌, length, take, drop, Some, None, Ok, Err, Option, Result, sym, refl, ap, ◌∙◌, subst, arith}
 use Rattle.std.proofs.lemmas.List.{drop_all, drop_at, get_or-drop, length-append, take_more}
 use Rattle.std.proofs.lemmas.Bool.{cond_both, cond-false, eqb-true, ne_eqb, le-ltb, ltb-false}
-use Rattle.faults.specs.declared.file.FileFault.{FileFault}
 use Rattle.faults.specs.declared.file.FileRefusal.{FileRefusal}
 use Rattle.entries.specs.Entry.{Entry, opens, sells, buys, ends, closes, bills, pays_out, buys_train, is_done, reopens, view}
 use Rattle.entries.specs.Writing.{writing, size}
-use Rattle.entries.specs.Reading.{byte, pair, stock_entry, operating_entry, or_else, known, complete, first, from_place, read_at}
+use Rattle.entries.specs.Reading.{byte, operating_entry, or_else, known, complete, first, from_place, read_at}
 use Rattle.entries.specs.Laws.{Bytes, NothingPastEnd, ReadsBack, OneWriting, DifferentWritings, ViewTellsAll, SingleRecords}
 use Rattle.entries.specs.declared.record.Record.{Record}
 use Rattle.entries.specs.declared.record.Record.TheVariants.{Open, Sell, Buy, End, Close, Bill, Payout, Train, Done, Reopen}

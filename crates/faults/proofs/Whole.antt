@@ -1,5 +1,5 @@
 -- A fault that holds another shows all of it.
-use Rattle.std.proofs.Common.{◌≡◌, ℕ, Ok, Err, refl, ap}
+use Rattle.std.proofs.Common.{◌≡◌, ℕ, Err, refl, ap}
 use Rattle.hands.specs.declared.fault.CarryFault.{CarryFault}
 use Rattle.faults.specs.Layers.{in_call, at_place, carried_up, NothingLost}
 use Rattle.faults.specs.declared.table.CallName.{CallName}

@@ -2,7 +2,7 @@
 use Rattle.std.specs.Prelude.{◌≡◌, ℕ, Ok, Err, Result}
 use Rattle.hands.specs.Refusal.{carry_number}
 use Rattle.hands.specs.declared.fault.CarryFault.{CarryFault}
-use Rattle.faults.specs.Numbers.{table_number, file_number}
+use Rattle.faults.specs.Numbers.{file_number}
 use Rattle.faults.specs.declared.table.CallName.{CallName}
 use Rattle.faults.specs.declared.table.TableFault.{TableFault}
 use Rattle.faults.specs.declared.table.TableRefusal.{TableRefusal}

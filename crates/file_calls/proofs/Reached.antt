@@ -1,5 +1,5 @@
 -- Records that are played with no fault are calls that are granted, and these lead to the same books.
-use Rattle.std.proofs.Common.{◌≡◌, ℕ, ◌+◌, ◌≤◌, min, Bool, true, false, cond, ltb, List, [], ◌∷◌, ◌++◌, reverse, length, Some, None, Ok, Err, fold, Option, Result, sym, refl, ap, ◌∙◌, subst, arith, lit≤}
+use Rattle.std.proofs.Common.{◌≡◌, ℕ, ◌+◌, ◌≤◌, Bool, true, false, cond, ltb, List, [], ◌∷◌, ◌++◌, reverse, length, Some, None, Ok, Err, fold, Option, sym, refl, ap, ◌∙◌, subst, arith}
 use Rattle.faults.specs.Layers.{in_call, at_place}
 use Rattle.faults.specs.declared.file.FileFault.{FileFault}
 use Rattle.faults.specs.declared.file.FileRefusal.TheVariants.{OtherRound, FileTooLong}
@@ -12,7 +12,7 @@ use Rattle.catalogue.specs.Printed.{printed_meaning, numbered}
 use Rattle.catalogue.specs.declared.books.PrintedBook.{PrintedBook}
 use Rattle.catalogue.specs.Ranges.{printed_lawful}
 use Rattle.ledger.specs.Answers.{Answer, odd}
-use Rattle.ledger.specs.Lives.{answer, after, granted_after, if_granted}
+use Rattle.ledger.specs.Lives.{answer, after}
 use Rattle.ledger.specs.Opening.{opened, opened_with, open_answer}
 use Rattle.ledger.specs.declared.books.Books.{Books}
 use Rattle.ledger.specs.declared.call.Call.{Call}

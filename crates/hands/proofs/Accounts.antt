@@ -1,12 +1,11 @@
 -- What a granted carry does to each hand of the row, tag by tag.
-use Rattle.std.proofs.Common.{◌≡◌, ℕ, ◌<◌, Bool, true, false, cond, eqb, ◌≢◌, List, length, get_or, set, ℤ, pos, ◌+ℤ◌, ◌-ℤ◌, Some, Ok, sym, refl, ap, ◌∙◌, subst, ⊎_elim, arith, length-set, get_or-set_other, get_or-set_same}
+use Rattle.std.proofs.Common.{◌≡◌, ℕ, ◌<◌, true, cond, eqb, ◌≢◌, List, get_or, set, pos, ◌+ℤ◌, ◌-ℤ◌, Some, Ok, sym, refl, ap, ◌∙◌, subst, ⊎_elim, arith, length-set, get_or-set_other, get_or-set_same}
 use Rattle.std.proofs.lemmas.Int.{ints}
 use Rattle.std.proofs.lemmas.Bool.{eq-eqb, ne_eqb, cases_eq}
 use Rattle.std.specs.List.{slice_get}
 use Rattle.hands.specs.Kind.{Kind}
-use Rattle.hands.specs.Carry.{Outcome, carried, refused}
+use Rattle.hands.specs.Carry.{Outcome, carried}
 use Rattle.hands.specs.Tallies.{Tallies, TallyLaws}
-use Rattle.hands.specs.declared.fault.CarryRefusal.{CarryRefusal}
 use Rattle.hands.proofs.Ways.{by_ways, nth_length, read_at}
 
 module _ {H L : Type 0} (k : Kind H L) (t : Tallies H L) (laws : TallyLaws k t) (row : List H) (i j : ℕ) (l : L) where

@@ -1,9 +1,8 @@
 -- A carry keeps the row's length and every floor.
-use Rattle.std.proofs.Common.{◌≡◌, ℕ, ◌<◌, ◌≢◌, List, length, get_or, set, ℤ, sym, refl, ap, ◌∙◌, subst, ⊎_elim, length-set, get_or-set_other, get_or-set_same}
+use Rattle.std.proofs.Common.{◌≡◌, ℕ, ◌<◌, List, length, get_or, set, sym, refl, ap, ◌∙◌, subst, ⊎_elim, length-set, get_or-set_other, get_or-set_same}
 use Rattle.std.proofs.lemmas.Bool.{cases_eq}
 use Rattle.hands.specs.Kind.{Kind}
 use Rattle.hands.specs.Carry.{carried}
-use Rattle.hands.specs.Tallies.{Tallies, TallyLaws}
 use Rattle.hands.proofs.Ways.{by_ways, nth_length, read_at}
 
 module _ {H L : Type 0} (k : Kind H L) (row : List H) (i j : ℕ) (l : L) where

@@ -1,5 +1,5 @@
 -- Either order, and back again, for every kind that keeps the laws of tallies.
-use Rattle.std.proofs.Common.{◌≡◌, ℕ, Bool, true, sym, refl, ap, ◌∙◌, arith}
+use Rattle.std.proofs.Common.{◌≡◌, true, sym, ◌∙◌, arith}
 use Rattle.std.proofs.lemmas.Int.{ints}
 use Rattle.hands.specs.Kind.{Kind}
 use Rattle.hands.specs.Tallies.{Tallies, TallyLaws, EitherOrder, BackAgain}

@@ -1,5 +1,5 @@
 -- Cash: one tag, a load is a number of marks.
-use Rattle.std.specs.Prelude.{◌≡◌, ℕ, ◌^◌, ◌<◌, Bool, true, cond, ◌&&◌, T, ℤ, pos, negsuc, ◌+ℤ◌, ◌-ℤ◌, ◌≤ℤ◌, Some, None, Option, ◌==◌, int_le}
+use Rattle.std.specs.Prelude.{◌≡◌, ℕ, Bool, true, cond, ◌&&◌, T, ℤ, pos, ◌+ℤ◌, ◌-ℤ◌, ◌≤ℤ◌, Some, None, Option, ◌==◌, int_le}
 use Rattle.std.proofs.Common.{sym, subst, arith}
 use Rattle.std.proofs.lemmas.Int.{ints}
 use Rattle.std.proofs.lemmas.Bool.{and_parts}
@@ -8,7 +8,6 @@ use Rattle.hands.specs.Tallies.{Tallies}
 use Rattle.kinds.specs.Floor.{floor_marks}
 use Rattle.kinds.specs.When.{when}
 use Rattle.kinds.specs.declared.cash_floor.CashFloor.{CashFloor}
-use Rattle.kinds.specs.declared.cash_floor.CashFloor.TheVariants.{Zero, Overdraft}
 use Rattle.kinds.specs.declared.cash.Cash.{Cash}
 
 abbrev pub can_give : Cash → ℕ → Bool

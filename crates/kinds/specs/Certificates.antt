@@ -1,6 +1,6 @@
 -- Papers keep the laws of tallies, and what their ones count.
-use Rattle.std.specs.Prelude.{◌≡◌, ℕ, ◌+◌, ◌*◌, ◌/◌, ◌%◌, ◌<◌, ◌≤◌, Bool, true, false, ◌&&◌, ℤ, pos, ◌+ℤ◌, ◌-ℤ◌, ◌≤ℤ◌, ◌==◌, bit_or, bit_xor, count_ones, nat_lt, refl}
-use Rattle.std.proofs.Common.{sym, ap, subst, ◌∙◌, div-one, arith}
+use Rattle.std.specs.Prelude.{◌≡◌, ℕ, ◌+◌, ◌/◌, ◌%◌, ◌<◌, true, ◌&&◌, pos, ◌+ℤ◌, ◌-ℤ◌, ◌≤ℤ◌, ◌==◌, bit_or, bit_xor, count_ones, nat_lt, refl}
+use Rattle.std.proofs.Common.{sym, ap, ◌∙◌, div-one, arith}
 use Rattle.std.specs.Int.Bits.{bit_and}
 use Rattle.std.proofs.lemmas.Nat.{and_mask}
 use denote.Struct.Cover.{Cover-one}
@@ -12,7 +12,7 @@ use Rattle.kinds.specs.declared.papers.Papers.{Papers}
 use Rattle.kinds.specs.declared.certificate_set.CertificateSet.{CertificateSet}
 use Rattle.kinds.specs.contracts.papers.Papers.{the_type}
 use Rattle.kinds.specs.Bits.{by_bits, bit_below, bit_past, all_there, none_there, falls, rises, named_one, own_from, own_to, ones_sized}
-use Rattle.kinds.specs.Made.{by_test, passed}
+use Rattle.kinds.specs.Made.{passed}
 
 pub same_papers : (a b : Papers) → a.certificates ≡ b.certificates → a ≡ b
 same_papers a b e = Cover-one the_type.cover the_type.propositions a b (λ i. (e i, tt))

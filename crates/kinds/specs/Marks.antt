@@ -1,5 +1,5 @@
 -- Cash by its marks and its floor.
-use Rattle.std.specs.Prelude.{◌≡◌, ℕ, zero, suc, ◌≤◌, Bool, true, false, cond, T, ℤ, pos, negsuc, ◌+ℤ◌, ◌-ℤ◌, ◌≤ℤ◌, Some, None, Option, ◌==◌, int_le, refl}
+use Rattle.std.specs.Prelude.{◌≡◌, ℕ, ◌≤◌, Bool, true, false, cond, T, ℤ, pos, negsuc, ◌+ℤ◌, ◌-ℤ◌, ◌≤ℤ◌, Some, None, Option, ◌==◌, int_le, refl}
 use Rattle.std.proofs.Common.{sym, ap, ◌∙◌, arith}
 use denote.Struct.Cover.{Cover-one}
 use Rattle.std.proofs.lemmas.Int.{ints}
@@ -11,7 +11,7 @@ use Rattle.kinds.specs.declared.cash.Cash.{Cash}
 use Rattle.kinds.specs.declared.cash_floor.CashFloor.{CashFloor}
 use Rattle.kinds.specs.declared.cash_floor.CashFloor.TheVariants.{Zero, Overdraft}
 use Rattle.kinds.specs.contracts.cash.Cash.{the_type}
-use Rattle.kinds.specs.Made.{by_test, passed, failed}
+use Rattle.kinds.specs.Made.{by_test, passed}
 
 pub same_cash : (a b : Cash) → a.marks ≡ b.marks → a.floor ≡ b.floor → a ≡ b
 same_cash a b e f = Cover-one the_type.cover the_type.propositions a b (λ i. (e i, (f i, tt)))

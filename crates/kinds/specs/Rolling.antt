@@ -1,5 +1,5 @@
 -- Trains keep the laws of tallies.
-use Rattle.std.specs.Prelude.{◌≡◌, ℕ, ◌+◌, ◌-◌, ◌<◌, ◌≤◌, Bool, true, false, cond, ◌&&◌, ◌≢◌, List, length, ℤ, pos, ◌+ℤ◌, ◌-ℤ◌, ◌≤ℤ◌, ◌==◌, nat_lt, slice_index, slice_set, refl}
+use Rattle.std.specs.Prelude.{◌≡◌, ℕ, ◌+◌, ◌-◌, ◌<◌, ◌≤◌, Bool, true, cond, ◌&&◌, ◌≢◌, length, pos, ◌+ℤ◌, ◌-ℤ◌, ◌≤ℤ◌, ◌==◌, nat_lt, slice_index, slice_set, refl}
 use Rattle.std.proofs.Common.{sym, ap, subst, ◌∙◌, ⊎_elim, arith}
 use denote.Struct.Cover.{Cover-one}
 use Rattle.std.proofs.lemmas.List.{get_or-set_same, get_or-set_other, get_or_past, ext_get_or}
@@ -11,7 +11,7 @@ use Rattle.kinds.specs.Trains.{held, can_give, can_take, given, taken, trains, t
 use Rattle.kinds.specs.declared.trains.Trains.{Trains}
 use Rattle.kinds.specs.declared.train_load.TrainLoad.{TrainLoad}
 use Rattle.kinds.specs.contracts.trains.Trains.{the_type}
-use Rattle.kinds.specs.Made.{by_test, passed}
+use Rattle.kinds.specs.Made.{passed}
 
 pub same_trains : (a b : Trains) → a.counts ≡ b.counts → a ≡ b
 same_trains a b e = Cover-one the_type.cover the_type.propositions a b (λ i. (e i, tt))

@@ -1,6 +1,6 @@
 -- Trains: eight tags, the kinds 0 to 7; a load is a kind and a count.
-use Rattle.std.specs.Prelude.{◌≡◌, ℕ, zero, suc, ◌+◌, ◌-◌, ◌≤◌, Bool, true, cond, ◌&&◌, List, [], ◌∷◌, length, replicate, pos, ◌==◌, nat_le, nat_lt, slice_index, slice_set}
-use Rattle.std.proofs.Common.{◌∙◌, arith, lit≤, length-set}
+use Rattle.std.specs.Prelude.{ℕ, zero, suc, ◌+◌, ◌-◌, ◌≤◌, Bool, cond, ◌&&◌, List, [], ◌∷◌, pos, ◌==◌, nat_le, nat_lt, slice_index, slice_set}
+use Rattle.std.proofs.Common.{◌∙◌, arith, length-set}
 use Rattle.std.proofs.lemmas.Bool.{and_parts, leb-true}
 use Rattle.hands.specs.Kind.{Kind}
 use Rattle.hands.specs.Tallies.{Tallies}

@@ -1,9 +1,9 @@
 -- Refusals in their order: the first that applies, else granted.
-use Rattle.std.specs.Prelude.{ℕ, ◌%◌, Bool, true, false, not, ◌&&◌, ℤ, pos, negsuc, ◌-ℤ◌, Some, None, Ok, Err, Option, Result, ◌==◌, int_lt, nat_le}
+use Rattle.std.specs.Prelude.{ℕ, ◌%◌, Bool, true, false, not, ◌&&◌, ℤ, negsuc, Some, None, Ok, Err, Option, Result, ◌==◌, int_lt, nat_le}
 use Rattle.hands.specs.declared.fault.CarryFault.{CarryFault}
 use Rattle.faults.specs.declared.table.TableRefusal.{TableRefusal}
 use Rattle.faults.specs.declared.table.TableRefusal.TheVariants.{WrongCard, NoSuchSeat, NotOnTurn, RoundOver, CompanyNotOnTurn, Carry}
-use Rattle.ledger.specs.Holdings.{bank, marks_at, is_seat}
+use Rattle.ledger.specs.Holdings.{is_seat}
 use Rattle.ledger.specs.declared.books.Books.{Books}
 
 abbrev pub Answer : Type 0

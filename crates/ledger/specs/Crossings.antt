@@ -1,6 +1,6 @@
 -- Crossings: which hand gives which load to which hand.
 use Rattle.std.specs.Prelude.{ℕ, ◌-◌, List, [], ◌∷◌, Result, slice_set}
-use Rattle.hands.specs.Carry.{Outcome, carried}
+use Rattle.hands.specs.Carry.{carried}
 use Rattle.hands.specs.declared.fault.CarryFault.{CarryFault}
 use Rattle.kinds.specs.Cash.{cash}
 use Rattle.kinds.specs.Papers.{papers}

@@ -1,6 +1,5 @@
 -- Calls, lives and their moments.
-use Rattle.std.specs.Prelude.{ℕ, List, [], ◌∷◌, Ok, Err, Result}
-use Rattle.faults.specs.declared.table.TableRefusal.{TableRefusal}
+use Rattle.std.specs.Prelude.{List, [], Ok, Err}
 use Rattle.rulebook.specs.Book.{Book}
 use Rattle.ledger.specs.Answers.{Answer}
 use Rattle.ledger.specs.Crossings.{Crossing}

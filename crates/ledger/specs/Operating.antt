@@ -1,5 +1,5 @@
 -- The calls of the operating round: what each is answered, and the books that it leaves.
-use Rattle.std.specs.Prelude.{ℕ, zero, suc, ◌+◌, ◌-◌, ◌*◌, Bool, true, false, cond, not, ◌&&◌, ◌||◌, List, [], ◌∷◌, ◌++◌, ℤ, pos, negsuc, ◌+ℤ◌, ◌-ℤ◌, Some, None, Ok, Err, Option, ◌==◌, int_le, int_lt, nat_lt}
+use Rattle.std.specs.Prelude.{ℕ, zero, suc, ◌+◌, ◌*◌, Bool, true, false, cond, not, ◌&&◌, ◌||◌, List, [], ◌∷◌, ◌++◌, ℤ, pos, negsuc, ◌+ℤ◌, ◌-ℤ◌, Some, None, Err, Option, ◌==◌, int_le, int_lt, nat_lt}
 use Rattle.rulebook.specs.Book.{Book}
 use Rattle.rulebook.specs.Lawful.{payable}
 use Rattle.rulebook.specs.declared.split.Split.{Split}
@@ -9,7 +9,6 @@ use Rattle.ledger.specs.Crossings.{Crossing, pays, moves, with_company, all_cros
 use Rattle.ledger.specs.Holdings.{bank, treasury, pool, stack, marks_at, company_of, tenths_at, seat_tenths, director, lowest_kind, has_train, next_company}
 use Rattle.ledger.specs.Stock.{with_round}
 use Rattle.ledger.specs.declared.books.Books.{Books}
-use Rattle.ledger.specs.declared.books.Stock.{Stock}
 use Rattle.ledger.specs.declared.books.Operating.{Operating}
 use Rattle.ledger.specs.declared.company.Company.{Company}
 

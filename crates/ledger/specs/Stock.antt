@@ -1,6 +1,6 @@
 -- The calls of the stock round: what each is answered, and the books that it leaves.
-use Rattle.std.specs.Prelude.{ℕ, zero, suc, ◌+◌, ◌-◌, ◌*◌, Bool, true, false, cond, not, ◌&&◌, ◌||◌, List, [], ◌∷◌, ◌++◌, ℤ, pos, ◌+ℤ◌, ◌-ℤ◌, Some, None, Option, Result, ◌==◌, nat_le, nat_lt, slice_index, slice_set}
-use Rattle.kinds.specs.Papers.{bit, certificate_count}
+use Rattle.std.specs.Prelude.{ℕ, zero, suc, ◌+◌, ◌-◌, ◌*◌, Bool, true, false, cond, not, ◌&&◌, ◌||◌, List, [], ◌∷◌, ◌++◌, pos, ◌+ℤ◌, ◌-ℤ◌, Some, None, Option, ◌==◌, nat_le, nat_lt, slice_index, slice_set}
+use Rattle.kinds.specs.Papers.{bit}
 use Rattle.rulebook.specs.Book.{Book}
 use Rattle.rulebook.specs.Funding.{funded_tenths}
 use Rattle.rulebook.specs.declared.funding.Funding.{Funding}
@@ -9,7 +9,7 @@ use Rattle.faults.specs.declared.table.TableRefusal.TheVariants.{NoSuchCompany, 
 use Rattle.ledger.specs.Answers.{Answer, granted, refused-if, and_then, by-carry, stock-card, round-over, on-stock-turn, below_floor}
 use Rattle.ledger.specs.Certificates.{lowest_one, lowest_two, lowest_ordinary}
 use Rattle.ledger.specs.Crossings.{Crossing, pays, hands, with_company, all_crossed, crossing_outcome}
-use Rattle.ledger.specs.Holdings.{bank, treasury, offering, pool, seat_papers, marks_at, company_of, papers_at, tenths_at, seat_tenths, holds_director, director, certificates_held, price_of, next_seat, largest_other, is_company, is_director, next_company}
+use Rattle.ledger.specs.Holdings.{bank, treasury, offering, pool, seat_papers, marks_at, company_of, papers_at, tenths_at, seat_tenths, director, certificates_held, price_of, next_seat, largest_other, is_company, is_director, next_company}
 use Rattle.ledger.specs.declared.books.Books.{Books}
 use Rattle.ledger.specs.declared.books.Stock.{Stock}
 use Rattle.ledger.specs.declared.books.Operating.{Operating}

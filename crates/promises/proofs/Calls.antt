@@ -1,16 +1,16 @@
 -- Each granted call: its crossings are carried, and its books are sound.
-use Rattle.std.proofs.Common.{◌≡◌, ℕ, zero, suc, ◌+◌, ◌*◌, ◌<◌, ◌≤◌, Bool, true, false, cond, not, ◌&&◌, ◌||◌, eqb, ltb, List, [], ◌∷◌, ◌++◌, pos, ◌-ℤ◌, Some, None, Ok, Err, Option, Result, sym, refl, ap, ◌∙◌, subst, ⊎_elim, arith}
+use Rattle.std.proofs.Common.{◌≡◌, ℕ, ◌+◌, ◌*◌, ◌≤◌, not, ◌&&◌, ◌||◌, eqb, ltb, pos, ◌-ℤ◌, Some, None, Ok, Option, subst, ⊎_elim, arith}
 use Rattle.std.proofs.lemmas.Bool.{not-false, cases_lt, ltb-false}
-use Rattle.faults.specs.declared.table.TableRefusal.TheVariants.{NoSuchCompany, AlreadyBought, TenthsNotHeld, PoolLimit, DirectorNeeded, BankFloor, SoldThisRound, NoSuchSource, SourceEmpty, NoParSpace, CertificateLimit, ShareLimit, AlreadyPaidOut, AmountOutOfRange, RevenueOutOfRange, NoTrain, NotPaidOut, NotLowestKind}
+use Rattle.faults.specs.declared.table.TableRefusal.TheVariants.{NoSuchCompany, AlreadyBought, TenthsNotHeld, PoolLimit, DirectorNeeded, BankFloor, SoldThisRound, NoSuchSource, AlreadyPaidOut, AmountOutOfRange, RevenueOutOfRange, NoTrain, NotPaidOut, NotLowestKind}
 use Rattle.rulebook.specs.Book.{Book}
 use Rattle.rulebook.specs.Lawful.{Lawful, Between, payable}
 use Rattle.rulebook.specs.declared.split.Split.{Split}
-use Rattle.ledger.specs.Answers.{Answer, granted, on-stock-turn, on-operating-turn, below_floor, by-carry}
-use Rattle.ledger.specs.Crossings.{Crossing, pays, hands, moves, crossing_outcome, crossed, all_crossed}
-use Rattle.ledger.specs.Holdings.{bank, treasury, pool, marks_at, tenths_at, seat_tenths, price_of, is_company, director, has_train, lowest_kind}
+use Rattle.ledger.specs.Answers.{granted, on-stock-turn, on-operating-turn, below_floor, by-carry}
+use Rattle.ledger.specs.Crossings.{pays, crossing_outcome}
+use Rattle.ledger.specs.Holdings.{bank, pool, marks_at, tenths_at, seat_tenths, price_of, is_company, director, has_train, lowest_kind}
 use Rattle.ledger.specs.Lives.{answer, crossings_of}
-use Rattle.ledger.specs.Stock.{sell_answer, director_needed, may_buy, buy_answer, payee, cost, float_short, sold_this_round, source_set, buys_director}
-use Rattle.ledger.specs.Operating.{bill_answer, payout_answer, payout_granted, payout_sum, payout_crossings, train_answer, first_payment, same_kind}
+use Rattle.ledger.specs.Stock.{sell_answer, director_needed, may_buy, buy_answer, payee, cost, float_short, sold_this_round}
+use Rattle.ledger.specs.Operating.{bill_answer, payout_answer, payout_granted, payout_sum, payout_crossings, train_answer, same_kind}
 use Rattle.ledger.specs.declared.books.Books.{Books}
 use Rattle.ledger.specs.declared.call.Call.{Call}
 use Rattle.ledger.specs.declared.call.Call.TheVariants.{Sell, Buy, End, Close, Bill, Payout, Train, Done, Reopen}

@@ -1,5 +1,5 @@
 -- A row of cash with one bank: who can give, can always pay anybody.
-use Rattle.std.proofs.Common.{◌≡◌, ℕ, zero, suc, ◌<◌, ◌≤◌, true, false, ◌≢◌, List, [], ◌∷◌, length, get_or, ℤ, pos, negsuc, ◌+ℤ◌, ◌-ℤ◌, ◌≤ℤ◌, ◌<ℤ◌, Some, Ok, Err, Result, sym, refl, ap, ◌∙◌, subst, ⊎_elim, arith}
+use Rattle.std.proofs.Common.{◌≡◌, ℕ, zero, suc, ◌<◌, ◌≤◌, true, false, ◌≢◌, List, [], ◌∷◌, length, get_or, ℤ, pos, negsuc, ◌+ℤ◌, ◌-ℤ◌, ◌≤ℤ◌, ◌<ℤ◌, Some, Ok, Err, Result, sym, refl, ap, ◌∙◌, ⊎_elim, arith}
 use Rattle.std.proofs.lemmas.Option.{slice_get-get_or}
 use Rattle.std.proofs.lemmas.Int.{ints}
 use Rattle.std.proofs.lemmas.Bool.{ne_eqb, cases_Bool}
@@ -15,8 +15,7 @@ use Rattle.hands.proofs.Ways.{granted}
 use Rattle.kinds.specs.Cash.{cash, cash_tallies, can_give, can_take, le_from}
 use Rattle.kinds.specs.Floor.{floor_marks}
 use Rattle.kinds.specs.declared.cash.Cash.{Cash}
-use Rattle.kinds.specs.declared.cash_floor.CashFloor.{CashFloor}
-use Rattle.kinds.specs.declared.cash_floor.CashFloor.TheVariants.{Zero, Overdraft}
+use Rattle.kinds.specs.declared.cash_floor.CashFloor.TheVariants.{Overdraft}
 use Rattle.kinds.specs.Marks.{cash_laws, to_le, floor_range, given_keeps, taken_keeps}
 use Rattle.ledger.specs.Holdings.{no_cash}
 

@@ -1,9 +1,9 @@
 -- The company on turn is one of the book's.
-use Rattle.std.proofs.Common.{◌≡◌, ℕ, zero, suc, ◌<◌, ◌≤◌, Bool, true, false, cond, ltb, Some, None, Option, sym, refl, ap, ◌∙◌, subst, arith}
+use Rattle.std.proofs.Common.{ℕ, zero, suc, ltb, Some, None, Option, arith}
 use Rattle.std.proofs.lemmas.Bool.{cond_both}
 use Rattle.rulebook.specs.Book.{Book}
 use Rattle.rulebook.specs.Lawful.{Between}
-use Rattle.ledger.specs.Holdings.{waiting, price_of, better, next_of, next_company}
+use Rattle.ledger.specs.Holdings.{waiting, price_of, better, next_of}
 use Rattle.ledger.specs.declared.books.Books.{Books}
 
 -- a company that is there, if any

@@ -1,15 +1,15 @@
 -- Directors at every moment of a life.
-use Rattle.std.proofs.Common.{◌≡◌, ℕ, zero, suc, ◌+◌, ◌-◌, ◌<◌, ◌≤◌, Bool, true, false, cond, eqb, ◌⊎◌, List, [], ◌∷◌, ◌++◌, get_or, replicate, Some, None, Ok, Err, Option, Result, sym, refl, ap, ◌∙◌, subst, inl, inr, ⊎_elim, arith}
+use Rattle.std.proofs.Common.{◌≡◌, ℕ, zero, suc, ◌+◌, ◌-◌, ◌≤◌, Bool, true, false, cond, eqb, List, [], ◌∷◌, ◌++◌, get_or, replicate, Some, None, Ok, Err, Option, sym, refl, ap, ◌∙◌, subst, inl, inr, ⊎_elim, arith}
 use Rattle.std.proofs.lemmas.Bool.{eqb-true}
 use Rattle.kinds.specs.Papers.{bit, tenths, no_papers, all_papers}
 use Rattle.kinds.specs.declared.papers.Papers.{Papers}
 use Rattle.kinds.specs.Bits.{bit_zero}
 use Rattle.rulebook.specs.Book.{Book}
-use Rattle.rulebook.specs.Lawful.{Lawful, Between}
+use Rattle.rulebook.specs.Lawful.{Lawful}
 use Rattle.rulebook.specs.declared.split.Split.{Split}
 use Rattle.ledger.specs.Answers.{Answer}
-use Rattle.ledger.specs.Crossings.{Crossing, pays, hands, moves, crossed, all_crossed, with_company}
-use Rattle.ledger.specs.Holdings.{no_company, company_of, papers_at, seat_papers, seat_tenths, holds_director, offering, director}
+use Rattle.ledger.specs.Crossings.{Crossing, pays, hands, moves, crossed, all_crossed}
+use Rattle.ledger.specs.Holdings.{no_company, company_of, papers_at, seat_papers, seat_tenths, offering, director}
 use Rattle.ledger.specs.Lives.{answer, crossings_of, granted_after, if_granted, after}
 use Rattle.ledger.specs.Opening.{untouched, opened}
 use Rattle.ledger.specs.Operating.{dividends, payout_crossings, needs_help, missing, help}
@@ -17,15 +17,13 @@ use Rattle.ledger.specs.declared.books.Books.{Books}
 use Rattle.ledger.specs.declared.company.Company.{Company}
 use Rattle.ledger.specs.declared.call.Call.{Call}
 use Rattle.ledger.specs.declared.call.Call.TheVariants.{Sell, Buy, End, Close, Bill, Payout, Train, Done, Reopen}
-use Rattle.promises.specs.Lives.{lived}
 use Rattle.promises.proofs.Led.{Led}
 use Rattle.promises.proofs.LedPurchases.{led_after_purchase}
 use Rattle.promises.proofs.LedSales.{led_after_sale}
 use Rattle.promises.proofs.Notes.{papers_stay}
 use Rattle.promises.proofs.Rows.{everywhere}
 use Rattle.promises.proofs.Shapes.{paid_out, served}
-use Rattle.promises.proofs.Sound.{Sound}
-use Rattle.promises.proofs.Standing.{Standing, call_standing}
+use Rattle.promises.proofs.Standing.{Standing}
 
 -- where no papers move, directors stay
 led_same : (b : Book) (s t : Books) → t.players ≡ s.players → ((company : ℕ) → (company_of t company).papers ≡ (company_of s company).papers) → Led b s → Led b t

@@ -1,5 +1,5 @@
 -- Two lives from one opening: equal hands exactly when receipts less gifts agree.
-use Rattle.std.proofs.Common.{◌≡◌, ℕ, ◌≤◌, cond, eqb, List, [], ◌∷◌, get_or, ℤ, pos, ◌+ℤ◌, ◌-ℤ◌, Ok, Err, Result, sym, refl, ap, ◌∙◌, subst, arith}
+use Rattle.std.proofs.Common.{◌≡◌, ℕ, cond, eqb, List, [], ◌∷◌, get_or, ℤ, pos, ◌+ℤ◌, Ok, Err, sym, refl, ap, ◌∙◌, arith}
 use Rattle.std.proofs.lemmas.Int.{ints}
 use Rattle.hands.proofs.Floors.{keeps}
 use Rattle.kinds.specs.Cash.{cash, cash_tallies}
@@ -15,7 +15,7 @@ use Rattle.rulebook.specs.Lawful.{Lawful}
 use Rattle.ledger.specs.Answers.{Answer}
 use Rattle.ledger.specs.Crossings.{Crossing, pays, hands, moves, crossed, all_crossed}
 use Rattle.ledger.specs.Holdings.{no_cash, no_trains, papers_at}
-use Rattle.ledger.specs.Lives.{answer, granted_after, if_granted, after, crossings_of}
+use Rattle.ledger.specs.Lives.{answer, granted_after, if_granted, crossings_of}
 use Rattle.ledger.specs.declared.books.Books.{Books}
 use Rattle.ledger.specs.declared.call.Call.{Call}
 use Rattle.ledger.specs.declared.call.Call.TheVariants.{Sell, Buy, End, Close, Bill, Payout, Train, Done, Reopen}

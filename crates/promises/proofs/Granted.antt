@@ -1,8 +1,8 @@
 -- What a granted answer says of each of its parts.
-use Rattle.std.proofs.Common.{◌≡◌, ℕ, Bool, true, false, not, Ok, Err, Result, refl, arith}
+use Rattle.std.proofs.Common.{◌≡◌, ℕ, Bool, true, false, Ok, Err, Result, refl, arith}
 use Rattle.hands.specs.declared.fault.CarryFault.{CarryFault}
 use Rattle.faults.specs.declared.table.TableRefusal.{TableRefusal}
-use Rattle.ledger.specs.Answers.{Answer, granted, refused-if, and_then, by-carry}
+use Rattle.ledger.specs.Answers.{Answer, refused-if, and_then, by-carry}
 
 not_granted : {P : Type 0} (why : TableRefusal) → ◌≡◌ {A = Answer} (Err why) (Ok tt) → P
 not_granted why e = let z : ◌≡◌ {A = ℕ} 0 1 = cc in absurd (omega arith)

@@ -1,5 +1,5 @@
 -- A granted crossing changes each hand by what it receives less what it gives.
-use Rattle.std.proofs.Common.{◌≡◌, ℕ, ◌+◌, ◌-◌, ◌<◌, ◌≤◌, Bool, true, false, cond, ◌&&◌, eqb, ◌≢◌, List, [], ◌∷◌, length, get_or, set, ℤ, pos, ◌+ℤ◌, ◌-ℤ◌, Ok, sym, refl, ap, ◌∙◌, subst, ⊎_elim, arith}
+use Rattle.std.proofs.Common.{◌≡◌, ℕ, ◌-◌, ◌≤◌, ◌≢◌, List, [], ◌∷◌, length, get_or, ℤ, pos, ◌+ℤ◌, ◌-ℤ◌, Ok, ap, ◌∙◌, ⊎_elim, arith}
 use Rattle.std.proofs.lemmas.List.{get_or-set_same, get_or-set_other}
 use Rattle.std.proofs.lemmas.Int.{ints}
 use Rattle.std.proofs.lemmas.Bool.{eq-eqb, ne_eqb, cases_eq}
@@ -12,11 +12,11 @@ use Rattle.kinds.specs.declared.certificate_set.CertificateSet.{CertificateSet}
 use Rattle.kinds.specs.Marks.{cash_laws}
 use Rattle.kinds.specs.Certificates.{papers_laws}
 use Rattle.kinds.specs.Rolling.{trains_laws}
-use Rattle.ledger.specs.Crossings.{Crossing, pays, hands, moves, crossing_outcome, crossed, all_crossed, with_company, with_papers}
+use Rattle.ledger.specs.Crossings.{Crossing, pays, hands, moves, crossing_outcome, crossed, with_company, with_papers}
 use Rattle.ledger.specs.Holdings.{no_cash, no_trains, no_company, company_of, papers_at}
 use Rattle.ledger.specs.declared.books.Books.{Books}
 use Rattle.ledger.specs.declared.company.Company.{Company}
-use Rattle.promises.specs.Accounts.{HandOf, cash_hand, paper_hand, train_hand, OfATable, tally_of, receipt, gift, receipts, gifts}
+use Rattle.promises.specs.Accounts.{HandOf, cash_hand, paper_hand, train_hand, OfATable, tally_of, receipt, gift}
 
 -- the companies of a crossing are a table's
 abbrev pub Within : Crossing → Type 0

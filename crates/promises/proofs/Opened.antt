@@ -1,10 +1,10 @@
 -- The books of a newly opened table stand.
-use Rattle.std.proofs.Common.{◌≡◌, ℕ, zero, suc, ◌+◌, ◌-◌, ◌*◌, ◌<◌, ◌≤◌, min, Bool, true, false, cond, List, [], ◌∷◌, ◌++◌, length, get_or, replicate, ℤ, pos, negsuc, ◌+ℤ◌, ◌-ℤ◌, ◌≤ℤ◌, Some, None, Option, sym, refl, ap, ◌∙◌, subst, inl, inr, ⊎_elim, le_trans, mul-le-mul_right, one-mul, arith}
+use Rattle.std.proofs.Common.{◌≡◌, ℕ, zero, suc, ◌+◌, ◌-◌, ◌*◌, ◌<◌, ◌≤◌, List, [], ◌∷◌, ◌++◌, length, get_or, replicate, ℤ, pos, negsuc, ◌+ℤ◌, ◌≤ℤ◌, Some, None, sym, refl, ap, ◌∙◌, subst, inl, inr, ⊎_elim, mul-le-mul_right, arith}
 use Rattle.std.proofs.lemmas.List.{length-append, length-replicate}
 use Rattle.std.proofs.lemmas.Int.{ints}
 use Rattle.std.proofs.lemmas.Bool.{cases_lt, and_from}
 use Rattle.hands.specs.Totals.{total}
-use Rattle.kinds.specs.Cash.{cash_new, cash_tallies, in_range}
+use Rattle.kinds.specs.Cash.{cash_tallies, in_range}
 use Rattle.kinds.specs.Floor.{floor_marks}
 use Rattle.kinds.specs.Papers.{bit, papers_tallies, no_papers, all_papers}
 use Rattle.kinds.specs.Trains.{trains_tallies, held}
@@ -16,9 +16,8 @@ use Rattle.kinds.specs.Made.{passed}
 use Rattle.kinds.specs.Marks.{to_le, floor_range}
 use Rattle.rulebook.specs.Book.{Book}
 use Rattle.rulebook.specs.Lawful.{Lawful, Between}
-use Rattle.ledger.specs.Holdings.{no_cash, no_trains, no_company, company_of}
-use Rattle.ledger.specs.Opening.{or_empty, cash_of, opening_cash, counts_from, stack_of, untouched, opening_companies, opened}
-use Rattle.ledger.specs.declared.books.Books.{Books}
+use Rattle.ledger.specs.Holdings.{no_cash, no_trains, no_company}
+use Rattle.ledger.specs.Opening.{or_empty, cash_of, opening_cash, counts_from, stack_of, untouched, opened}
 use Rattle.ledger.specs.declared.company.Company.{Company}
 use Rattle.ledger.proofs.Outside.{none_counted}
 use Rattle.promises.proofs.CashRow.{BankRow, floor_total}

@@ -1,16 +1,16 @@
 -- The papers of a company, each certificate in one hand: who holds some, can always give them.
-use Rattle.std.proofs.Common.{◌≡◌, ℕ, zero, suc, ◌+◌, ◌^◌, ◌<◌, ◌≤◌, Bool, true, ◌≢◌, ◌⊎◌, List, [], ◌∷◌, length, get_or, ℤ, pos, ◌+ℤ◌, ◌≤ℤ◌, Ok, sym, refl, ap, ◌∙◌, subst, inl, inr, ⊎_elim, arith}
+use Rattle.std.proofs.Common.{◌≡◌, ℕ, zero, suc, ◌+◌, ◌<◌, true, ◌≢◌, List, [], ◌∷◌, length, get_or, pos, ◌≤ℤ◌, Ok, refl, ap, arith}
 use lib.Bits.{bit_and}
 use Rattle.std.proofs.lemmas.Option.{slice_get-get_or}
 use Rattle.std.proofs.lemmas.Int.{ints}
-use Rattle.std.proofs.lemmas.Bool.{and_from, lt-ltb, eq-eqb, cases_lt}
+use Rattle.std.proofs.lemmas.Bool.{and_from, lt-ltb, eq-eqb}
 use Rattle.hands.specs.Carry.{carried}
 use Rattle.hands.specs.Totals.{total}
 use Rattle.hands.proofs.Ways.{granted}
 use Rattle.kinds.specs.Papers.{bit, papers, papers_tallies, can_give, can_take, no_papers}
 use Rattle.kinds.specs.declared.papers.Papers.{Papers}
 use Rattle.kinds.specs.declared.certificate_set.CertificateSet.{CertificateSet}
-use Rattle.kinds.specs.Bits.{bit_below, bit_past, bit_zero, none_there, falls}
+use Rattle.kinds.specs.Bits.{bit_zero, none_there, falls}
 
 pub not_negative : (row : List Papers) (tag : ℕ) → pos 0 ≤ℤ total papers_tallies row tag
 not_negative [] tag = omega (arith, ints)

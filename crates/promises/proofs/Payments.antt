@@ -1,12 +1,11 @@
 -- Cash crossings of sound books: who may pay, and what a payment leaves.
-use Rattle.std.proofs.Common.{◌≡◌, ℕ, zero, suc, ◌+◌, ◌-◌, ◌*◌, ◌<◌, ◌≤◌, Bool, true, false, cond, eqb, ◌≢◌, List, [], ◌∷◌, ◌++◌, get_or, ℤ, pos, negsuc, ◌+ℤ◌, ◌-ℤ◌, ◌≤ℤ◌, Ok, sym, refl, ap, ◌∙◌, subst, arith}
+use Rattle.std.proofs.Common.{◌≡◌, ℕ, zero, suc, ◌+◌, ◌*◌, ◌<◌, ◌≤◌, cond, ◌≢◌, [], ◌∷◌, ◌++◌, get_or, ℤ, pos, negsuc, ◌+ℤ◌, ◌-ℤ◌, ◌≤ℤ◌, Ok, sym, refl, ap, arith}
 use Rattle.std.proofs.lemmas.Int.{ints}
 use Rattle.std.proofs.lemmas.Bool.{eq-eqb, ne_eqb}
-use Rattle.kinds.specs.Cash.{can_give}
 use Rattle.kinds.specs.Floor.{floor_marks}
 use Rattle.kinds.specs.Marks.{to_le, floor_range}
 use Rattle.rulebook.specs.Book.{Book}
-use Rattle.ledger.specs.Crossings.{Crossing, pays, crossing_outcome, crossed, all_crossed}
+use Rattle.ledger.specs.Crossings.{pays, crossing_outcome, crossed}
 use Rattle.ledger.specs.Holdings.{bank, no_cash, marks_at, seat_tenths}
 use Rattle.ledger.specs.Operating.{dividends, dividend_sum}
 use Rattle.ledger.specs.declared.books.Books.{Books}

@@ -1,5 +1,5 @@
 -- A granted payout: each of its crossings is granted.
-use Rattle.std.proofs.Common.{◌≡◌, ℕ, ◌+◌, ◌<◌, ◌≤◌, Bool, true, false, ℤ, pos, ◌-ℤ◌, Some, None, Option, sym, refl, ap, ◌∙◌, subst, arith}
+use Rattle.std.proofs.Common.{◌≡◌, ℕ, ◌≤◌, false, pos, ◌-ℤ◌, Some, arith}
 use Rattle.rulebook.specs.Book.{Book}
 use Rattle.rulebook.specs.declared.split.Split.{Split}
 use Rattle.ledger.specs.Answers.{below_floor}

@@ -1,20 +1,20 @@
 -- The companies of a granted call's crossings are the table's.
-use Rattle.std.proofs.Common.{◌≡◌, ℕ, zero, suc, ◌≤◌, Bool, true, false, cond, not, ◌&&◌, ◌||◌, eqb, ltb, List, [], ◌∷◌, ◌++◌, Some, None, Ok, Option, sym, refl, ap, ◌∙◌, subst, arith}
+use Rattle.std.proofs.Common.{◌≡◌, ℕ, zero, suc, ◌≤◌, Bool, true, false, cond, not, ◌&&◌, eqb, ltb, List, [], ◌∷◌, ◌++◌, Some, None, Ok, Option, arith}
 use Rattle.faults.specs.declared.table.TableRefusal.TheVariants.{NoSuchCompany}
 use Rattle.rulebook.specs.Book.{Book}
 use Rattle.rulebook.specs.Lawful.{Lawful, Between}
 use Rattle.rulebook.specs.declared.split.Split.{Split}
 use Rattle.ledger.specs.Answers.{on-stock-turn}
-use Rattle.ledger.specs.Crossings.{Crossing, pays, hands, moves, all_crossed}
+use Rattle.ledger.specs.Crossings.{Crossing, pays, all_crossed}
 use Rattle.ledger.specs.Holdings.{bank, treasury, seat_tenths, largest_other, is_company, director}
 use Rattle.ledger.specs.Lives.{answer, crossings_of}
-use Rattle.ledger.specs.Stock.{exchange, another_leads, sell_answer, sell_exchange, may_buy, buy_answer, purchase, overtakes, floats, float_money, float_crossing}
+use Rattle.ledger.specs.Stock.{exchange, another_leads, sell_exchange, may_buy, purchase, overtakes, floats, float_money}
 use Rattle.ledger.specs.Operating.{dividends, payout_crossings, needs_help, missing, help}
 use Rattle.ledger.specs.declared.books.Books.{Books}
 use Rattle.ledger.specs.declared.call.Call.{Call}
 use Rattle.ledger.specs.declared.call.Call.TheVariants.{Sell, Buy, End, Close, Bill, Payout, Train, Done, Reopen}
 use Rattle.promises.proofs.Granted.{both_granted, test_passed}
-use Rattle.promises.proofs.Moved.{Within, AllWithin}
+use Rattle.promises.proofs.Moved.{AllWithin}
 use Rattle.promises.proofs.Turns.{company_there}
 
 within_append : (xs ys : List Crossing) → AllWithin xs → AllWithin ys → AllWithin (xs ++ ys)

@@ -1,14 +1,13 @@
 -- A granted purchase: each of its crossings is granted.
-use Rattle.std.proofs.Common.{◌≡◌, ℕ, zero, suc, ◌+◌, ◌-◌, ◌*◌, ◌<◌, ◌≤◌, Bool, true, false, cond, not, ◌&&◌, ◌||◌, eqb, ltb, leb, ◌≢◌, ◌⊎◌, List, [], ◌∷◌, ◌++◌, ℤ, pos, negsuc, ◌+ℤ◌, ◌-ℤ◌, ◌≤ℤ◌, Some, None, Ok, Option, sym, refl, ap, ◌∙◌, subst, inl, inr, ⊎_elim, arith}
-use lib.Signed.{lt_z}
+use Rattle.std.proofs.Common.{◌≡◌, ℕ, zero, suc, ◌≤◌, Bool, true, false, cond, not, ◌&&◌, eqb, ltb, List, [], ◌∷◌, pos, ◌+ℤ◌, ◌-ℤ◌, Some, None, Ok, Option, sym, refl, ap, ◌∙◌, subst, ⊎_elim, arith}
 use Rattle.std.proofs.lemmas.Int.{ints}
 use Rattle.std.proofs.lemmas.Bool.{and_parts, not-true, eqb-false, and_cases, true≢false}
 use Rattle.rulebook.specs.Book.{Book}
 use Rattle.ledger.specs.Answers.{below_floor}
 use Rattle.ledger.specs.Certificates.{lowest_one}
-use Rattle.ledger.specs.Crossings.{Crossing, pays, hands, crossing_outcome, crossed, all_crossed}
-use Rattle.ledger.specs.Holdings.{bank, treasury, pool, seat_papers, marks_at, company_of, papers_at, seat_tenths, director, holds_director}
-use Rattle.ledger.specs.Stock.{exchange, source_set, cost, payee, floats, float_money, float_short, purchase, overtakes, float_crossing, buy_crossings, is_sold_funding}
+use Rattle.ledger.specs.Crossings.{Crossing, pays, crossing_outcome, crossed, all_crossed}
+use Rattle.ledger.specs.Holdings.{bank, treasury, seat_papers, marks_at, papers_at, seat_tenths, director}
+use Rattle.ledger.specs.Stock.{exchange, source_set, cost, payee, floats, float_money, float_short, purchase, overtakes, buy_crossings, is_sold_funding}
 use Rattle.ledger.specs.declared.books.Books.{Books}
 use Rattle.promises.proofs.Handovers.{carriable_append, hand_over, exchange_granted}
 use Rattle.promises.proofs.Payments.{bank_can_pay, receiver_then}

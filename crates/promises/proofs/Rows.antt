@@ -1,5 +1,5 @@
 -- Rows that are made of equal parts.
-use Rattle.std.proofs.Common.{◌≡◌, ℕ, zero, suc, ◌+◌, ◌*◌, ◌<◌, List, [], ◌∷◌, ◌++◌, get_or, replicate, ℤ, pos, ◌+ℤ◌, sym, refl, ap, ◌∙◌, subst, suc-mul, zero-mul, arith}
+use Rattle.std.proofs.Common.{◌≡◌, ℕ, zero, suc, ◌+◌, ◌*◌, ◌<◌, List, [], ◌∷◌, ◌++◌, get_or, replicate, ℤ, pos, ◌+ℤ◌, sym, refl, ap, suc-mul, zero-mul, arith}
 use Rattle.std.proofs.lemmas.Int.{ints}
 use Rattle.hands.specs.Tallies.{Tallies}
 use Rattle.hands.specs.Totals.{total}

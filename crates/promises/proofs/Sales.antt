@@ -1,14 +1,13 @@
 -- A granted sale: each of its crossings is granted.
-use Rattle.std.proofs.Common.{◌≡◌, ℕ, zero, suc, ◌+◌, ◌-◌, ◌*◌, ◌<◌, ◌≤◌, Bool, true, false, cond, not, ◌&&◌, ◌||◌, ◌≢◌, List, [], ◌∷◌, ◌++◌, ℤ, pos, negsuc, ◌+ℤ◌, ◌-ℤ◌, ◌≤ℤ◌, Ok, sym, refl, ap, ◌∙◌, subst, ⊎_elim, arith}
-use lib.Signed.{lt_z}
+use Rattle.std.proofs.Common.{◌≡◌, ℕ, ◌*◌, ◌≤◌, Bool, true, false, cond, [], ◌∷◌, ℤ, pos, negsuc, ◌-ℤ◌, ◌≤ℤ◌, sym, refl, subst, arith}
 use Rattle.std.proofs.lemmas.Int.{ints}
 use Rattle.std.proofs.lemmas.Bool.{and_parts}
 use Rattle.rulebook.specs.Book.{Book}
 use Rattle.ledger.specs.Answers.{below_floor}
 use Rattle.ledger.specs.Certificates.{lowest_ordinary}
-use Rattle.ledger.specs.Crossings.{Crossing, pays, hands, crossing_outcome, crossed, all_crossed}
-use Rattle.ledger.specs.Holdings.{bank, pool, seat_papers, marks_at, papers_at, price_of, largest_other, is_director, holds_director}
-use Rattle.ledger.specs.Stock.{exchange, another_leads, keeps, sell_exchange, sell_crossings}
+use Rattle.ledger.specs.Crossings.{pays, hands, crossed, all_crossed}
+use Rattle.ledger.specs.Holdings.{bank, pool, seat_papers, marks_at, papers_at, price_of, largest_other}
+use Rattle.ledger.specs.Stock.{exchange, another_leads, sell_exchange, sell_crossings}
 use Rattle.ledger.specs.declared.books.Books.{Books}
 use Rattle.promises.proofs.Handovers.{carriable_append, hand_over, exchange_granted}
 use Rattle.promises.proofs.Payments.{bank_can_pay}

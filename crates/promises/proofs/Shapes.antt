@@ -1,5 +1,5 @@
 -- The record and the round that each call leaves, by name.
-use Rattle.std.proofs.Common.{ℕ, ◌+◌, true, false, ◌||◌, None}
+use Rattle.std.proofs.Common.{ℕ, ◌+◌, false, ◌||◌, None}
 use Rattle.rulebook.specs.Book.{Book}
 use Rattle.ledger.specs.Crossings.{all_crossed}
 use Rattle.ledger.specs.Holdings.{company_of, next_company}

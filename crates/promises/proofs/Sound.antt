@@ -1,20 +1,16 @@
 -- What holds of the books at every moment, and every crossing keeps.
-use Rattle.std.proofs.Common.{◌≡◌, ℕ, ◌+◌, ◌-◌, ◌<◌, ◌≤◌, Bool, true, List, [], ◌∷◌, length, get_or, ℤ, pos, ◌≤ℤ◌, sym, refl, ap, ◌∙◌, subst, arith, length-set}
-use Rattle.std.proofs.lemmas.Int.{ints}
+use Rattle.std.proofs.Common.{◌≡◌, ℕ, ◌-◌, ◌<◌, ◌≤◌, List, [], ◌∷◌, length, pos, ◌≤ℤ◌, sym, refl, ◌∙◌, subst, length-set}
 use Rattle.hands.specs.Carry.{carried}
 use Rattle.hands.specs.Totals.{total}
 use Rattle.hands.proofs.Floors.{same_length}
-use Rattle.kinds.specs.Cash.{cash}
 use Rattle.kinds.specs.Papers.{papers, papers_tallies}
 use Rattle.kinds.specs.Trains.{trains, trains_tallies}
 use Rattle.rulebook.specs.Book.{Book}
 use Rattle.rulebook.specs.Lawful.{Between}
-use Rattle.ledger.specs.Crossings.{Crossing, pays, hands, moves, crossed, all_crossed, with_company, with_papers}
+use Rattle.ledger.specs.Crossings.{Crossing, pays, hands, moves, crossed, all_crossed, with_papers}
 use Rattle.ledger.specs.Holdings.{company_of}
 use Rattle.ledger.specs.declared.books.Books.{Books}
-use Rattle.ledger.specs.declared.company.Company.{Company}
 pub use Rattle.promises.specs.Carried.{Carriable}
-use Rattle.promises.specs.Conservation.{SameTotals}
 use Rattle.promises.proofs.CashRow.{BankRow, pay_keeps}
 use Rattle.promises.proofs.Records.{by_record}
 use Rattle.promises.proofs.Totals.{crossing_keeps}

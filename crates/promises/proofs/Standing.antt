@@ -1,10 +1,10 @@
 -- What every call keeps of the books of a table.
-use Rattle.std.proofs.Common.{◌≡◌, ℕ, ◌+◌, ◌≤◌, true, false, List, [], ◌∷◌, Some, None, Ok, Err, Option, Result, sym, refl, ap, ◌∙◌, subst}
+use Rattle.std.proofs.Common.{◌≡◌, ◌+◌, ◌≤◌, true, false, List, [], ◌∷◌, None, Ok, Err, sym, refl, ◌∙◌, subst}
 use Rattle.rulebook.specs.Book.{Book}
 use Rattle.rulebook.specs.Lawful.{Lawful}
 use Rattle.ledger.specs.Answers.{Answer}
 use Rattle.ledger.specs.Crossings.{Crossing, pays, hands, moves, crossed, all_crossed, with_company}
-use Rattle.ledger.specs.Lives.{answer, crossings_of, granted_after, if_granted, after}
+use Rattle.ledger.specs.Lives.{answer, granted_after, if_granted, after}
 use Rattle.ledger.specs.Stock.{sell_crossings, buy_crossings, having_sold, having_bought, turn_ended, closed_stock, with_round}
 use Rattle.ledger.specs.Operating.{bill_crossings, payout_crossings, train_crossings, noted_served}
 use Rattle.ledger.specs.declared.books.Books.{Books}

@@ -1,5 +1,5 @@
 -- Every crossing, and so every call, keeps the totals.
-use Rattle.std.proofs.Common.{◌≡◌, ℕ, ◌-◌, List, [], ◌∷◌, get_or, Ok, Err, Result, sym, refl, ap, ◌∙◌, subst}
+use Rattle.std.proofs.Common.{◌≡◌, ℕ, List, [], ◌∷◌, get_or, Ok, Err, sym, refl, ap, ◌∙◌, subst}
 use Rattle.hands.specs.Carry.{carried}
 use Rattle.hands.specs.Totals.{TotalsKept}
 use Rattle.hands.proofs.Kept.{totals_kept}

@@ -1,13 +1,13 @@
 -- A granted bill or train purchase: each of its crossings is granted.
-use Rattle.std.proofs.Common.{◌≡◌, ℕ, zero, suc, ◌+◌, ◌-◌, ◌<◌, ◌≤◌, Bool, true, false, cond, not, ◌&&◌, eqb, ltb, leb, ◌≢◌, List, [], ◌∷◌, ◌++◌, get_or, ℤ, pos, negsuc, ◌+ℤ◌, ◌-ℤ◌, ◌≤ℤ◌, Some, None, Ok, Option, sym, refl, ap, ◌∙◌, subst, ⊎_elim, arith}
+use Rattle.std.proofs.Common.{◌≡◌, ℕ, zero, suc, ◌+◌, ◌<◌, ◌≤◌, Bool, true, false, cond, not, ltb, List, [], ◌∷◌, ◌++◌, get_or, ℤ, pos, negsuc, ◌+ℤ◌, ◌-ℤ◌, ◌≤ℤ◌, Some, None, Ok, Option, sym, refl, ap, subst, arith}
 use lib.Signed.{lt_z}
 use Rattle.std.proofs.lemmas.Int.{ints}
-use Rattle.std.proofs.lemmas.Bool.{ltb-true, cond_both, eqb-true, and_parts, cond-true, cond-false, cases_Bool, and_cases}
+use Rattle.std.proofs.lemmas.Bool.{ltb-true, cond_both, eqb-true, and_parts}
 use Rattle.rulebook.specs.Book.{Book}
-use Rattle.ledger.specs.Crossings.{Crossing, pays, moves, crossing_outcome, crossed, all_crossed}
+use Rattle.ledger.specs.Crossings.{pays, moves, crossing_outcome, crossed}
 use Rattle.kinds.specs.declared.trains.Trains.{Trains}
-use Rattle.ledger.specs.Holdings.{bank, treasury, stack, no_trains, marks_at, trains_held, lowest_kind_from, lowest_kind, director, has_train}
-use Rattle.ledger.specs.Operating.{lacking, missing, needs_help, same_kind, help, first_payment, train_crossings}
+use Rattle.ledger.specs.Holdings.{bank, treasury, stack, no_trains, marks_at, trains_held, lowest_kind_from, lowest_kind, has_train}
+use Rattle.ledger.specs.Operating.{lacking, missing, needs_help, same_kind, help, first_payment}
 use Rattle.ledger.specs.declared.books.Books.{Books}
 use Rattle.promises.proofs.Payments.{can_pay, receiver_then}
 use Rattle.promises.proofs.Sound.{Sound, Carriable, crossing_sound}

@@ -1,10 +1,10 @@
 -- What a granted answer says of seat and company.
-use Rattle.std.proofs.Common.{◌≡◌, ℕ, ◌≤◌, Bool, true, false, not, ◌&&◌, eqb, leb, Some, None, Ok, Option, sym, refl, ap, ◌∙◌, arith}
+use Rattle.std.proofs.Common.{◌≡◌, ℕ, ◌≤◌, true, false, not, leb, Some, None, Ok, Option, ap}
 use Rattle.std.proofs.lemmas.Bool.{and_parts, not-false, leb-true, eqb-true, false≢true}
-use Rattle.faults.specs.declared.table.TableRefusal.TheVariants.{WrongCard, NoSuchSeat, NotOnTurn, RoundOver, CompanyNotOnTurn}
+use Rattle.faults.specs.declared.table.TableRefusal.TheVariants.{WrongCard, NoSuchSeat, RoundOver, CompanyNotOnTurn}
 use Rattle.rulebook.specs.Book.{Book}
 use Rattle.rulebook.specs.Lawful.{Between}
-use Rattle.ledger.specs.Answers.{on-stock-turn, on-operating-turn, stock-card, operating-card, round-over, same-company, refused-if, granted}
+use Rattle.ledger.specs.Answers.{on-stock-turn, on-operating-turn, stock-card, operating-card, round-over, same-company, granted}
 use Rattle.ledger.specs.Holdings.{is_seat, is_company}
 use Rattle.ledger.specs.declared.books.Books.{Books}
 use Rattle.promises.proofs.Granted.{test_passed}

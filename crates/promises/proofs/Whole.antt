@@ -6,7 +6,7 @@ use Rattle.ledger.specs.Opening.{opened}
 use Rattle.ledger.specs.declared.books.Books.{Books}
 use Rattle.ledger.specs.declared.call.Call.{Call}
 use Rattle.promises.specs.Lives.{lived}
-use Rattle.promises.specs.Promises.{Conserved, Directed, LivesStand}
+use Rattle.promises.specs.Promises.{Directed, LivesStand}
 use Rattle.promises.proofs.Directed.{call_led, opening_led}
 use Rattle.promises.proofs.EqualHands.{hands_tell_nets}
 use Rattle.promises.proofs.Led.{Led, one_director}

@@ -1,5 +1,5 @@
 -- Receipts and gifts of each hand, tag by tag: whole numbers without limit.
-use Rattle.std.specs.Prelude.{◌≡◌, ℕ, ◌+◌, ◌≤◌, cond, ◌&&◌, List, [], ◌∷◌, ℤ, pos, ◌+ℤ◌, ◌-ℤ◌, ◌==◌, slice_index_or}
+use Rattle.std.specs.Prelude.{ℕ, ◌+◌, ◌≤◌, cond, ◌&&◌, List, [], ◌∷◌, ℤ, ◌==◌, slice_index_or}
 use Rattle.kinds.specs.Cash.{cash_tallies}
 use Rattle.kinds.specs.Papers.{papers_tallies}
 use Rattle.kinds.specs.Trains.{trains_tallies}

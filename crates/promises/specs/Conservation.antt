@@ -1,5 +1,5 @@
 -- No call makes or loses cash, certificates or trains.
-use Rattle.std.specs.Prelude.{◌≡◌, ℕ}
+use Rattle.std.specs.Prelude.{ℕ}
 use Rattle.hands.specs.Totals.{TotalsKept}
 use Rattle.kinds.specs.Cash.{cash_tallies}
 use Rattle.kinds.specs.Papers.{papers_tallies}

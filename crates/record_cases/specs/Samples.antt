@@ -1,5 +1,5 @@
 -- Samples at the edges of the file format.
-use Rattle.std.specs.Prelude.{◌≡◌, ℕ, List, [], ◌∷◌, Ok, Err, codes}
+use Rattle.std.specs.Prelude.{◌≡◌, [], ◌∷◌, Ok, Err, codes}
 use Rattle.hands.specs.declared.fault.CarryRefusal.TheVariants.{CannotGive}
 use Rattle.faults.specs.Layers.{carried_up}
 use Rattle.faults.specs.declared.file.FileRefusal.TheVariants.{BufferTooShort}

@@ -1,5 +1,5 @@
 -- What play tells where it ends, from how all of it was played.
-use Rattle.std.proofs.Common.{◌≡◌, ℕ, List, length, sym, ap, ◌∙◌, subst}
+use Rattle.std.proofs.Common.{◌≡◌, ℕ, List, length, sym, subst}
 use Rattle.entries.specs.Whole.{reading_by}
 use Rattle.rulebook.specs.Book.{Book}
 use Rattle.ledger.specs.declared.books.Books.{Books}

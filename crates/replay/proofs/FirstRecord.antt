@@ -1,13 +1,13 @@
 -- What a file leaves, by its first record.
-use Rattle.std.proofs.Common.{◌≡◌, ℕ, ◌+◌, ◌<◌, ◌≤◌, List, [], ◌∷◌, length, Some, Ok, Err, sym, refl, ap, ◌∙◌, arith}
+use Rattle.std.proofs.Common.{◌≡◌, ℕ, ◌<◌, ◌≤◌, List, ◌∷◌, length, Ok, Err, ap, ◌∙◌, arith}
 use Rattle.std.proofs.lemmas.Bool.{le-ltb}
 use Rattle.faults.specs.declared.file.FileFault.{FileFault}
-use Rattle.faults.specs.declared.file.FileRefusal.TheVariants.{OpenMisplaced, FileTooLong}
+use Rattle.faults.specs.declared.file.FileRefusal.TheVariants.{OpenMisplaced}
 use Rattle.entries.specs.Entry.{Entry}
 use Rattle.entries.specs.Reading.{read_at}
-use Rattle.entries.specs.Whole.{Outcome, onward, reading_by, reading}
+use Rattle.entries.specs.Whole.{Outcome, reading_by, reading}
 use Rattle.entries.proofs.Steps.{at_end, stops, goes_on}
-use Rattle.replay.specs.Whole.{Replayed, no_game, refused_at, from_first, from_records, replayed}
+use Rattle.replay.specs.Whole.{no_game, refused_at, from_first, from_records, replayed}
 use Rattle.replay.proofs.Forward.{forward, same_reading}
 
 module _ (file : List ℕ) (short : length file ≤ 65536) where

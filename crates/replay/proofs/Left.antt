@@ -1,5 +1,5 @@
 -- What is left to play at a place of a file.
-use Rattle.std.proofs.Common.{◌≡◌, ℕ, ◌+◌, ◌<◌, ◌≤◌, List, length, Some, None, Ok, Err, Option, sym, refl, ap, ◌∙◌}
+use Rattle.std.proofs.Common.{◌≡◌, ℕ, ◌+◌, ◌<◌, ◌≤◌, List, length, Some, None, Ok, Err, Option, sym, ap, ◌∙◌}
 use Rattle.faults.specs.declared.file.FileFault.{FileFault}
 use Rattle.entries.specs.Entry.{Entry}
 use Rattle.entries.specs.Reading.{read_at}

@@ -9,7 +9,7 @@ use Rattle.faults.specs.Layers.{in_call, at_place}
 use Rattle.faults.specs.Numbers.{table_number}
 use Rattle.faults.specs.declared.table.CallName.{CallName}
 use Rattle.faults.specs.declared.table.TableRefusal.{TableRefusal}
-use Rattle.faults.specs.declared.table.TableRefusal.TheVariants.{WrongCard, NoSuchSeat, NotOnTurn, NoSuchCompany, AlreadyBought, TenthsNotHeld, PoolLimit, DirectorNeeded, SoldThisRound, NoSuchSource, SourceEmpty, NoParSpace, CertificateLimit, ShareLimit, BankFloor, RoundOver, RoundNotOver, LastRound, CompanyNotOnTurn, AlreadyPaidOut, AmountOutOfRange, RevenueOutOfRange, NoSuchMode, NoTrain, NotLowestKind, NotPaidOut, TrainOwed, CompanyOnTurn, Carry}
+use Rattle.faults.specs.declared.table.TableRefusal.TheVariants.{WrongCard, NoSuchMode, Carry}
 use Rattle.rulebook.specs.Book.{Book}
 use Rattle.rulebook.specs.declared.split.Split.{Split}
 use Rattle.entries.specs.Entry.{Entry, opens, sells, buys, ends, closes, bills, pays_out, buys_train, is_done, reopens}
@@ -19,7 +19,6 @@ use Rattle.ledger.specs.Operating.{payout_granted}
 use Rattle.ledger.specs.Stock.{may_buy}
 use Rattle.ledger.specs.declared.books.Books.{Books}
 use Rattle.ledger.specs.declared.call.Call.{Call}
-use Rattle.ledger.specs.declared.call.Call.TheVariants.{Sell, Buy, End, Close, Bill, Payout, Train, Done, Reopen}
 use Rattle.replay.specs.Calls.{call_of, name_of, belongs}
 use Rattle.replay.specs.Laws.{NotTwenty}
 use Rattle.replay.specs.Playing.{Played, fault_of, asked, record_played}

@@ -5,7 +5,7 @@ use Rattle.faults.specs.Layers.{in_call, at_place}
 use Rattle.faults.specs.declared.file.FileRefusal.TheVariants.{OtherRound}
 use Rattle.faults.specs.declared.table.TableRefusal.TheVariants.{WrongCard}
 use Rattle.rulebook.specs.Book.{Book}
-use Rattle.ledger.specs.Answers.{Answer, odd, refused-if, stock-card, operating-card, on-stock-turn, on-operating-turn}
+use Rattle.ledger.specs.Answers.{Answer, odd, refused-if, on-stock-turn, on-operating-turn}
 use Rattle.ledger.specs.Lives.{answer, after, granted_after, if_granted, crossings_of}
 use Rattle.ledger.specs.declared.books.Books.{Books}
 use Rattle.ledger.specs.declared.call.Call.{Call}

@@ -1,6 +1,5 @@
 -- The file of a granted game, and files that go on after it.
-use Rattle.std.proofs.Common.{◌≡◌, ℕ, ◌+◌, ◌<◌, ◌≤◌, Bool, cond, List, [], ◌∷◌, ◌++◌, map, length, drop, Some, None, Ok, Err, fold, Option, Result, sym, refl, ap, ◌∙◌, subst, append-nil, arith, length-append}
-use Rattle.std.specs.List.{flat_map}
+use Rattle.std.proofs.Common.{◌≡◌, ℕ, ◌+◌, ◌<◌, ◌≤◌, Bool, List, [], ◌∷◌, ◌++◌, map, length, Some, None, Ok, Err, fold, Option, sym, refl, ap, ◌∙◌, append-nil, arith, length-append}
 use Rattle.std.proofs.lemmas.List.{drop_at}
 use Rattle.std.proofs.lemmas.Bool.{cond_both}
 use Rattle.faults.specs.Layers.{in_call, at_place}
@@ -9,7 +8,7 @@ use Rattle.faults.specs.declared.file.FileRefusal.{FileRefusal}
 use Rattle.faults.specs.declared.table.CallName.TheVariants.{Open as open-name}
 use Rattle.entries.specs.Entry.{Entry, opens}
 use Rattle.entries.specs.Reading.{first, from_place, read_at}
-use Rattle.entries.specs.Whole.{Outcome, onward, reading_by, placed_from}
+use Rattle.entries.specs.Whole.{Outcome, reading_by, placed_from}
 use Rattle.entries.specs.Writing.{writing, size}
 use Rattle.entries.proofs.OneWriting.{first_written}
 use Rattle.entries.proofs.Steps.{at_end, stops, goes_on}
@@ -25,9 +24,9 @@ use Rattle.ledger.specs.declared.call.Call.TheVariants.{Sell, Buy, End, Close, B
 use Rattle.replay.specs.Calls.{call_of, name_of, belongs}
 use Rattle.replay.specs.Laws.{entry_of, AllGranted, GrantedGame, books_of, file_of, FilesOfGames}
 use Rattle.replay.specs.Playing.{Played, fault_of, next_card, asked, record_played, play_on, played, all_played}
-use Rattle.replay.specs.Whole.{Replayed, game_played, from_opening, from_book, from_records, replayed}
+use Rattle.replay.specs.Whole.{game_played, from_opening, from_book, replayed}
 use Rattle.replay.proofs.FirstRecord.{by_outcome}
-use Rattle.replay.proofs.Fronts.{after_front, reads_front}
+use Rattle.replay.proofs.Fronts.{reads_front}
 use Rattle.replay.proofs.OwnCard.{granted_played}
 
 -- granted calls are played as they were made, and then comes what follows

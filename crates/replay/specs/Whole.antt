@@ -6,7 +6,7 @@ use Rattle.faults.specs.declared.file.FileRefusal.{FileRefusal}
 use Rattle.faults.specs.declared.file.FileRefusal.TheVariants.{OpenMisplaced, FileTooLong, UnknownBook}
 use Rattle.faults.specs.declared.table.CallName.TheVariants.{Open}
 use Rattle.entries.specs.Entry.{Entry, opens, sells, buys, ends, closes, bills, pays_out, buys_train, is_done, reopens}
-use Rattle.entries.specs.Whole.{Outcome, reading}
+use Rattle.entries.specs.Whole.{reading}
 use Rattle.catalogue.specs.Printed.{printed_meaning, numbered}
 use Rattle.catalogue.specs.declared.books.PrintedBook.{PrintedBook}
 use Rattle.ledger.specs.Opening.{open_answer}

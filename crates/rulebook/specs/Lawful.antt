@@ -1,5 +1,5 @@
 -- The ranges that the answers of every rule book stay in.
-use Rattle.std.specs.Prelude.{◌≡◌, ℕ, ◌+◌, ◌*◌, ◌/◌, ◌%◌, ◌<◌, ◌≤◌, Bool, true, false, ◌&&◌, ◌⊎◌, Some, None, Option, ◌==◌, nat_le}
+use Rattle.std.specs.Prelude.{◌≡◌, ℕ, ◌+◌, ◌*◌, ◌/◌, ◌%◌, ◌<◌, ◌≤◌, Bool, true, false, ◌&&◌, ◌⊎◌, Some, None, ◌==◌, nat_le}
 use Rattle.rulebook.specs.Book.{Book}
 use Rattle.rulebook.specs.declared.split.Split.{Split}
 

@@ -1,12 +1,12 @@
 -- Samples at the edges of the rules.
-use Rattle.std.specs.Prelude.{◌≡◌, ℕ, List, [], ◌∷◌, map, pos, negsuc, Ok, Err, codes}
+use Rattle.std.specs.Prelude.{◌≡◌, List, [], ◌∷◌, map, pos, negsuc, Ok, Err, codes}
 use Rattle.hands.specs.Carry.{carried, refused}
 use Rattle.hands.specs.declared.fault.CarryRefusal.TheVariants.{CannotGive}
 use Rattle.kinds.specs.Cash.{cash}
 use Rattle.kinds.specs.declared.cash.Cash.{Cash}
 use Rattle.kinds.specs.declared.cash_floor.CashFloor.TheVariants.{Zero, Overdraft}
 use Rattle.printed.specs.Books.{north, berg}
-use Rattle.dealing.specs.Opening.{dealing, opened, dealt_row, bank_with, seat_with, hand_view}
+use Rattle.dealing.specs.Opening.{dealing, opened, bank_with, seat_with, hand_view}
 use Rattle.dealing.specs.Listing.{opening_text}
 use Rattle.dealing.specs.declared.refusal.OpeningRefusal.TheVariants.{NoOpeningCash, UnknownBook}
 

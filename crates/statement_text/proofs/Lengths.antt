@@ -1,5 +1,5 @@
 -- How long each line of a statement gets, and that all of them fit a text.
-use Rattle.std.proofs.Common.{◌≡◌, ℕ, zero, suc, ◌+◌, ◌*◌, ◌<◌, ◌≤◌, Bool, true, false, cond, List, [], ◌++◌, length, get_or, ℤ, pos, negsuc, ◌≤ℤ◌, Some, decimal, Option, ap, ◌∙◌, ⊎_elim, le_trans, mul-le-mul_right, suc-mul, arith, length-append}
+use Rattle.std.proofs.Common.{◌≡◌, ℕ, zero, suc, ◌+◌, ◌*◌, ◌<◌, ◌≤◌, Bool, true, false, cond, List, [], ◌++◌, length, get_or, ℤ, pos, negsuc, ◌≤ℤ◌, Some, decimal, Option, ap, ◌∙◌, ⊎_elim, suc-mul, arith, length-append}
 use Rattle.std.proofs.lemmas.Fmt.{length-decimal-le, length_signed_le}
 use Rattle.std.proofs.lemmas.Int.{ints}
 use Rattle.std.proofs.lemmas.Bool.{cases_lt}
@@ -8,7 +8,7 @@ use Rattle.kinds.specs.declared.cash.Cash.{Cash}
 use Rattle.kinds.specs.Marks.{floor_range}
 use Rattle.rulebook.specs.Book.{Book}
 use Rattle.rulebook.specs.Lawful.{Lawful}
-use Rattle.text.specs.Lines.{bank_line, seat_line, company_line}
+use Rattle.text.specs.Lines.{bank_line, company_line}
 use Rattle.text.specs.Text.{added}
 use Rattle.text.proofs.Added.{added_fits}
 use Rattle.text.proofs.Bounds.{digit_bound, bank_line_length, seat_line_length, company_line_length}

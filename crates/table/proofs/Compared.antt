@@ -11,7 +11,7 @@ use Rattle.ledger.specs.Lives.{after}
 use Rattle.ledger.specs.Opening.{opened, opened_with, open_answer}
 use Rattle.ledger.specs.declared.books.Books.{Books}
 use Rattle.ledger.specs.declared.call.Call.{Call}
-use Rattle.promises.specs.Lives.{lived, EqualHands, EqualNets}
+use Rattle.promises.specs.Lives.{lived, EqualHands}
 use Rattle.promises.proofs.Whole.{all_lives_stand}
 use Rattle.setup.proofs.Filled.{opening_granted}
 use Rattle.table.specs.Bounds.{Bounded}

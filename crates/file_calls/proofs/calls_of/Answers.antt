@@ -1,4 +1,4 @@
-use Rattle.std.proofs.Common.{◌++◌, length, vec_items, refl, ap, ◌∙◌, arith}
+use Rattle.std.proofs.Common.{◌++◌, length, vec_items, ap, ◌∙◌, arith}
 use Rattle.entries.specs.Entry.{view}
 use Rattle.entries.specs.Whole.{reading_by}
 use Rattle.file_calls.specs.Calls.{calls_from, listed}

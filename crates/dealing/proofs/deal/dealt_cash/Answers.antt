@@ -1,4 +1,4 @@
-use Rattle.std.proofs.Common.{◌≡◌, true, false, is_err, sym, ap, ◌∙◌, arith}
+use Rattle.std.proofs.Common.{is_err, sym, ap, ◌∙◌, arith}
 use Rattle.std.proofs.lemmas.Bool.{false≢true}
 use Rattle.dealing.proofs.Seats.{none_dealt, seat_dealt, seven}
 use Rattle.dealing.proofs.deal.dealt_cash.Goals as goal

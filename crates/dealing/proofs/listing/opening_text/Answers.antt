@@ -1,11 +1,10 @@
-use Rattle.std.proofs.Common.{◌≡◌, [], map, sym, ap, ◌∙◌, arith}
+use Rattle.std.proofs.Common.{[], map, ap, ◌∙◌, arith}
 use Rattle.text.specs.Lines.{refused_line}
-use Rattle.text.specs.Text.{shown, added}
+use Rattle.text.specs.Text.{added}
 use Rattle.text.proofs.Added.{added_fits}
 use Rattle.text.proofs.Bounds.{refused_line_bound}
 use Rattle.dealing.specs.Opening.{hand_view}
 use Rattle.dealing.specs.Listing.{listed, opening_text}
-use Rattle.dealing.specs.Refusal.{opening_number}
 use Rattle.dealing.proofs.Listed.{listed_bound}
 use Rattle.dealing.proofs.listing.opening_text.Goals as goal
 

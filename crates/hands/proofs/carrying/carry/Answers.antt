@@ -1,4 +1,4 @@
-use Rattle.std.proofs.Common.{◌≡◌, ◌<◌, length, sym, ap, ◌∙◌, length-set, rules}
+use Rattle.std.proofs.Common.{◌<◌, length, sym, ◌∙◌, length-set, rules}
 use Rattle.std.proofs.lemmas.Result.{err_from_is_err_and}
 use Rattle.hands.proofs.Ways.{refusal_keeps, giver_inside, receiver_inside, done}
 use Rattle.hands.proofs.carrying.carry.Goals as goal

@@ -1,4 +1,4 @@
-use Rattle.std.proofs.Common.{◌≡◌, List, sym, ap, ◌∙◌, subst}
+use Rattle.std.proofs.Common.{sym, ap, subst}
 use Rattle.hands.specs.Totals.{TotalsKept, ElsewhereSame}
 use Rattle.hands.proofs.Kept.{totals_kept, elsewhere_same}
 use Rattle.hands.proofs.totals.carry_tallied.Goals as goal

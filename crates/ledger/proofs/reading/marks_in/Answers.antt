@@ -1,4 +1,4 @@
-use Rattle.std.proofs.Common.{get_or, sym, ap}
+use Rattle.std.proofs.Common.{sym, ap}
 use Rattle.std.proofs.lemmas.List.{get_or_past}
 use Rattle.ledger.specs.Holdings.{no_cash}
 use Rattle.ledger.proofs.reading.marks_in.Goals as goal

@@ -1,4 +1,4 @@
-use Rattle.std.proofs.Common.{not, [], sym, ap, ◌∙◌}
+use Rattle.std.proofs.Common.{not, sym, ap, ◌∙◌}
 use Rattle.std.proofs.lemmas.Bool.{cond-false}
 use Rattle.text.specs.Text.{shown, added}
 use Rattle.statement_text.proofs.Adding.{nothing_added}

@@ -1,4 +1,3 @@
-use Rattle.std.proofs.Common.{◌≡◌, subst}
 use Rattle.text.specs.Text.{shown}
 use Rattle.statement_text.specs.Statement.{seat_line_of}
 use Rattle.statement_text.proofs.Adding.{nothing_added, line_added}

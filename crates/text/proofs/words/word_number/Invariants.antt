@@ -1,4 +1,4 @@
-use Rattle.std.proofs.Common.{◌≡◌, ◌^◌, ◌<◌, drop}
+use Rattle.std.proofs.Common.{◌≡◌, drop}
 use Rattle.text.specs.Words.{digits_after}
 use Rattle.text.proofs.words.word_number.Given as goal
 

@@ -1,4 +1,4 @@
-use Rattle.std.proofs.Common.{◌-◌, string_bytes}
+use Rattle.std.proofs.Common.{string_bytes}
 use Rattle.trace_text.specs.Lines.{numbers_from}
 use Rattle.trace_text.specs.Pushed.{Pushed}
 use Rattle.trace_text.proofs.lines.push_numbers.Given as goal

@@ -1,4 +1,4 @@
-use Rattle.std.proofs.Common.{◌≡◌, pos, ◌≤ℤ◌, refl, arith}
+use Rattle.std.proofs.Common.{pos, ◌≤ℤ◌, refl, arith}
 use Rattle.std.proofs.lemmas.Int.{ints, to_z-of_z}
 use Rattle.kinds.specs.Floor.{floor_marks}
 use Rattle.kinds.specs.Marks.{is_new}

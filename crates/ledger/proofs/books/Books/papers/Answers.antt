@@ -1,4 +1,4 @@
-use Rattle.std.proofs.Common.{◌≡◌, ℕ, zero, suc, get_or, replicate, sym, refl, ap, ◌∙◌}
+use Rattle.std.proofs.Common.{get_or, sym, ap, ◌∙◌}
 use Rattle.kinds.specs.Papers.{no_papers}
 use Rattle.ledger.proofs.Outside.{no_record, no_papers_there}
 use Rattle.ledger.proofs.books.Books.papers.Goals as goal

@@ -3,7 +3,7 @@ use Rattle.faults.specs.Layers.{in_call}
 use Rattle.faults.specs.declared.table.CallName.TheVariants.{Open}
 use Rattle.faults.specs.declared.table.TableRefusal.{TableRefusal}
 use Rattle.ledger.specs.declared.books.Books.{Books}
-use Rattle.table.proofs.Compared.{opening_passed, starts_bounded}
+use Rattle.table.proofs.Compared.{opening_passed}
 use Rattle.table.proofs.table.Table.open.Goals as goal
 
 pub returns : goal.returns

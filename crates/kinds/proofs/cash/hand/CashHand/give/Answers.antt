@@ -1,4 +1,4 @@
-use Rattle.std.proofs.Common.{◌≡◌, pos, ◌+ℤ◌, ◌-ℤ◌, sym, refl, arith}
+use Rattle.std.proofs.Common.{pos, ◌-ℤ◌, sym, refl, arith}
 use Rattle.std.proofs.lemmas.Int.{ints}
 use Rattle.kinds.specs.Floor.{floor_marks}
 use Rattle.kinds.specs.Cash.{le_from}

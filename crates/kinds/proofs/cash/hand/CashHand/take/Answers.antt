@@ -1,6 +1,5 @@
-use Rattle.std.proofs.Common.{◌≡◌, pos, ◌+ℤ◌, ◌-ℤ◌, sym, refl, arith}
+use Rattle.std.proofs.Common.{pos, ◌+ℤ◌, sym, refl, arith}
 use Rattle.std.proofs.lemmas.Int.{ints}
-use Rattle.kinds.specs.Floor.{floor_marks}
 use Rattle.kinds.specs.Cash.{le_from}
 use Rattle.kinds.specs.Marks.{is_taken, floor_range}
 use Rattle.kinds.proofs.cash.hand.CashHand.take.Goals as goal
