@@ -178,8 +178,7 @@ fn main(rt: HostRuntime) -> anyhow::Result<()> {
     let mut words = env::args(&rt)?;
     let _ = words.next();
     let (Some(one), Some(other), None) = (words.next(), words.next(), words.next()) else {
-        eprintln!(rt; "compare: give the names of two game files, as in: compare A B")?;
-        return Err(anyhow!("no two names"));
+        return Err(anyhow!("compare: give the names of two game files, as in: compare A B"));
     };
     compare_files(&rt, one.as_str(), other.as_str())?;
     Ok(())

@@ -29,10 +29,9 @@ fn print_opening(rt: &HostRuntime, book: u32, players: u32) -> io::Result<()> {
 
 fn main(rt: HostRuntime) -> anyhow::Result<()> {
     let Some((book, players)) = numbers(&rt) else {
-        eprintln!(rt;
+        return Err(anyhow!(
             "opening: give two whole numbers, the book and the players, as in: opening 1 3"
-        )?;
-        return Err(anyhow!("no two numbers"));
+        ));
     };
     print_opening(&rt, book, players)?;
     Ok(())

@@ -3,7 +3,7 @@ ghost use Rattle.std.specs.Prelude.{◌≡◌, ℕ, ◌≤◌, Some};
 use ledger::books::Books;
 use rulebook::book::RuleBook;
 
-mod comparing;
+mod comparison;
 mod opening;
 mod operating_round;
 mod reading;
