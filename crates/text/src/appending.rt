@@ -34,17 +34,22 @@ impl Text {
     pub fn push_number(&mut self, n: u32)
         ensures { shown self.new ≡ added (shown self.old) (decimal n) }
     {
-        self.push_wide(u64::from(n));
+        if n >= 10 {
+            self.push_number(n / 10);
+        }
+        self.push(b'0' + (n % 10) as u8);
     }
 
     // The same for a wider number.
-    pub fn push_wide(&mut self, n: u64)
-        ensures { shown self.new ≡ added (shown self.old) (decimal n) }
+    pub fn push_wide(&mut self, wide: u64)
+        ensures { shown self.new ≡ added (shown self.old) (decimal wide) }
     {
-        if n >= 10 {
-            self.push_wide(n / 10);
-        }
-        self.push(b'0' + (n % 10) as u8);
+        let Ok(n) = u32::try_from(wide) else {
+            self.push_wide(wide / 10);
+            self.push(b'0' + (wide % 10) as u8);
+            return;
+        };
+        self.push_number(n);
     }
 
     // Writes `z` in decimal, after a minus sign if it is below nought.
