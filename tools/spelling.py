@@ -16,8 +16,8 @@ DECLARED = re.compile(
 OTHERWISE = {
     "back-again": "back_again_lem",
     "either-order": "either_order_lem",
-    "bit-and": "bit-bit_and",
-    "bit-xor": "bit-bit_xor",
+    "bit-and": "bit_of_and",
+    "bit-xor": "bit_of_xor",
 }
 # What the kit's script has turned already in the place that declares it.
 TURNED = {"crates/hands/proofs/Orders.antt": {"either_order": "either_order_lem"}}
@@ -46,10 +46,34 @@ def turned(name):
     return "_".join(parts)
 
 
+def in_function(path):
+    """Is it the proof of one function? It has the names that the check gives to goals and steps."""
+    return "/proofs/" in path and os.path.basename(path) in IN_FUNCTION
+
+
+def foreign_names():
+    """What the files import from std, the kit's libraries and its logic."""
+    own = {f"Rattle.{crate}." for crate in os.listdir("crates")}
+    names = set()
+    for path in files(".antt"):
+        for line in read(path).split("\n"):
+            if line.startswith("use ") and not any(line.startswith("use " + o) for o in own):
+                names |= set(re.findall(TOKEN, line))
+    return names
+
+
+def bound_names(text):
+    """Names with dashes that a file of definitions or lemmas binds or gives by `as`."""
+    found = set()
+    for free, piece in pieces(text, "--"):
+        if free:
+            found |= {w for w in re.findall(TOKEN, piece) if re.fullmatch(r"[A-Za-z][A-Za-z0-9_']*(-[A-Za-z0-9_']+)+", w)}
+    return found
+
+
 def own_names():
     names, of_std = set(), set()
     for path in files(".antt"):
-        in_function = os.path.basename(path) in IN_FUNCTION
         for line in read(path).split("\n"):
             if line.startswith("use Rattle.std"):
                 of_std |= set(re.findall(TOKEN, line))
@@ -57,7 +81,7 @@ def own_names():
             if not m or "-" not in m["name"] or line.strip().startswith("--"):
                 continue
             # a goal that the check names is public in a function's own file
-            if in_function and "pub" in m["marks"]:
+            if in_function(path) and "pub" in m["marks"]:
                 continue
             if all(re.fullmatch(r"[A-Za-z0-9_']+", p) for p in m["name"].split("-")):
                 names.add(m["name"])
@@ -86,18 +110,21 @@ def pieces(text, comment):
 
 
 def main():
-    names = own_names()
+    names, foreign = own_names(), foreign_names()
     spelt = {turned(n): n for n in names}
     if len(spelt) != len(names):
         sys.exit("two names fall together")
     for path in files(".antt", ".rt", ".edit"):
         text = read(path)
         comment = "--" if path.endswith(".antt") else "//"
+        here = names
+        if path.endswith(".antt") and not in_function(path):
+            here = names | (bound_names(text) - foreign)
         before = set(re.findall(TOKEN, text))
-        for new, old in sorted(spelt.items()):
-            if new in before and old in before:
-                print(f"{path}: {old} falls together with {new}")
-        after = rewrite(text, names, comment)
+        for old in sorted(here & before):
+            if turned(old) in before:
+                print(f"{path}: {old} falls together with {turned(old)}")
+        after = rewrite(text, here, comment)
         for old, new in TURNED.get(path, {}).items():
             after = re.sub(r"\b%s\b(?=[^.{]*( :| h))" % old, new, after)
         if after != text:

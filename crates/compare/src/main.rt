@@ -1,7 +1,6 @@
 // Plays two game files and says, hand by hand, where the two tables differ, or that they are equal: compare A B.
 #![tactic(auto)]
 
-use anyhow::anyhow;
 use catalogue::books::PrintedBook;
 use faults::file::FileFault;
 use file_calls::calls_of;
@@ -11,6 +10,7 @@ use replay::replay;
 use rulebook::book::RuleBook;
 use std::fs::File;
 use std::io::Read;
+use std::process::ExitCode;
 use std::{env, io};
 use table::life::compare_lives;
 
@@ -174,12 +174,12 @@ fn compare_files(rt: &HostRuntime, one: &str, other: &str) -> io::Result<()> {
     compare_games(rt, &a, &b, &first, &second)
 }
 
-fn main(rt: HostRuntime) -> anyhow::Result<()> {
+fn main(rt: HostRuntime) -> anyhow::Result<ExitCode> {
     let mut words = env::args(&rt)?;
     let _ = words.next();
     let (Some(one), Some(other), None) = (words.next(), words.next(), words.next()) else {
         return Err(anyhow!("compare: give the names of two game files, as in: compare A B"));
     };
     compare_files(&rt, one.as_str(), other.as_str())?;
-    Ok(())
+    Ok(ExitCode::SUCCESS)
 }

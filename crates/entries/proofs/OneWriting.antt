@@ -23,7 +23,7 @@ low h l k = omega arith
 pub written_known : (e : Entry) (after : List ℕ) → known (writing e ++ after) ≡ Some e
 written_known (opens book players) after = refl
 written_known (sells seat company tenths) after = refl
-written_known (buys seat company source par-space) after = refl
+written_known (buys seat company source par_space) after = refl
 written_known (ends seat) after = refl
 written_known closes after = refl
 written_known (bills company amount) after = ap (λ n. Some (bills company n)) (whole amount)
@@ -134,7 +134,7 @@ one_writing file small place next e h =
 unview : Entry → Record
 unview (opens book players) = Open book players
 unview (sells seat company tenths) = Sell seat company tenths
-unview (buys seat company source par-space) = Buy seat company source par-space
+unview (buys seat company source par_space) = Buy seat company source par_space
 unview (ends seat) = End seat
 unview closes = Close
 unview (bills company amount) = Bill company amount
@@ -147,7 +147,7 @@ unview_view : (r : Record) → unview (view r) ≡ r
 unfolding unview
 unview_view (Open book players) = refl
 unview_view (Sell seat company tenths) = refl
-unview_view (Buy seat company source par-space) = refl
+unview_view (Buy seat company source par_space) = refl
 unview_view (End seat) = refl
 unview_view Close = refl
 unview_view (Bill company amount) = refl

@@ -7,7 +7,7 @@ use Rattle.entries.specs.declared.record.Record.TheVariants.{Open, Sell, Buy, En
 pub data Entry : Type 0 where
   opens : (book players : ℕ) → Entry
   sells : (seat company tenths : ℕ) → Entry
-  buys : (seat company source par-space : ℕ) → Entry
+  buys : (seat company source par_space : ℕ) → Entry
   ends : (seat : ℕ) → Entry
   closes : Entry
   bills : (company amount : ℕ) → Entry
@@ -19,7 +19,7 @@ pub data Entry : Type 0 where
 abbrev pub view : Record → Entry
 view (Open book players) = opens book players
 view (Sell seat company tenths) = sells seat company tenths
-view (Buy seat company source par-space) = buys seat company source par-space
+view (Buy seat company source par_space) = buys seat company source par_space
 view (End seat) = ends seat
 view Close = closes
 view (Bill company amount) = bills company amount

@@ -26,7 +26,7 @@ OneWriting =
 
 -- records of different content have different writings, even if more bytes follow them
 abbrev pub DifferentWritings : Type 0
-DifferentWritings = (d e : Entry) (after-d after-e : List ℕ) → writing d ++ after-d ≡ writing e ++ after-e → d ≡ e
+DifferentWritings = (d e : Entry) (after_d after_e : List ℕ) → writing d ++ after_d ≡ writing e ++ after_e → d ≡ e
 
 -- and the entry of a record tells all of it
 abbrev pub ViewTellsAll : Type 0

@@ -12,7 +12,7 @@ two_bytes n = n / 256 ∷ (n % 256 ∷ [])
 abbrev pub form : Entry → ℕ × List ℕ
 form (opens book players) = (1, book ∷ (players ∷ []))
 form (sells seat company tenths) = (2, seat ∷ (company ∷ (tenths ∷ [])))
-form (buys seat company source par-space) = (3, seat ∷ (company ∷ (source ∷ (par-space ∷ []))))
+form (buys seat company source par_space) = (3, seat ∷ (company ∷ (source ∷ (par_space ∷ []))))
 form (ends seat) = (4, seat ∷ [])
 form closes = (5, [])
 form (bills company amount) = (6, company ∷ two_bytes amount)

@@ -40,7 +40,7 @@ module _ (b : Book) (s : Books) (card : ℕ) (own : card ≡ s.round) (few : s.r
   same_card : (x : Entry) (c : Call) → call_of card x ≡ Some c → next_card (Ok tt) s card c ≡ card_then card x
   same_card (opens book players) c e = let z : ◌≡◌ {A = ℕ} 0 1 = cc in absurd (omega arith)
   same_card (sells seat company tenths) c e = let f : c ≡ Sell card seat company tenths = cc in ap (next_card (Ok tt) s card) f
-  same_card (buys seat company source par-space) c e = let f : c ≡ Buy card seat company source par-space = cc in ap (next_card (Ok tt) s card) f
+  same_card (buys seat company source par_space) c e = let f : c ≡ Buy card seat company source par_space = cc in ap (next_card (Ok tt) s card) f
   same_card (ends seat) c e = let f : c ≡ End card seat = cc in ap (next_card (Ok tt) s card) f
   same_card closes c e = let f : c ≡ Close card = cc in let n : s.round + 1 ≡ next_number card = omega arith in ap (next_card (Ok tt) s card) f ∙ n
   same_card (bills company amount) c e = let f : c ≡ Bill card company amount = cc in ap (next_card (Ok tt) s card) f
@@ -107,16 +107,16 @@ module _ (place : ℕ) (rest : List (ℕ × Entry)) (ending : Option FileFault) 
       let start = opened b players cash in
       let law = printed_lawful book in
       let granted : open_answer b players ≡ Ok start = ap (opened_with b players) e in
-      let led-there = led b law ending rest start (starts_bounded b law players start granted) 1 refl f in
+      let led_there = led b law ending rest start (starts_bounded b law players start granted) 1 refl f in
       let all = fold (after b) start (calls_from 1 rest) in
       let seated : all.players ≡ players = all_players b start (calls_from 1 rest) in
       let here : g ≡ record { book = book; books = (played b start 1 rest ending).0; card = (played b start 1 rest ending).1 } = cc in
       let found : (cash : ℕ) × (b.opening (played b start 1 rest ending).0.players ≡ Some cash)
       × ((played b start 1 rest ending).0 ≡ lived b (opened b (played b start 1 rest ending).0.players cash) (reverse (calls_from 1 rest))) =
-      let n : (played b start 1 rest ending).0.players ≡ players = ap (λ (t : Books). t.players) led-there ∙ seated in (
+      let n : (played b start 1 rest ending).0.players ≡ players = ap (λ (t : Books). t.players) led_there ∙ seated in (
         cash,
         ap b.opening n ∙ e,
-        led-there ∙ sym (lived_led b start (calls_from 1 rest)) ∙ ap (λ (k : ℕ). lived b (opened b k cash) (reverse (calls_from 1 rest))) (sym n),
+        led_there ∙ sym (lived_led b start (calls_from 1 rest)) ∙ ap (λ (k : ℕ). lived b (opened b k cash) (reverse (calls_from 1 rest))) (sym n),
       ) in
       subst
       (λ (h : SeenGame). (cash : ℕ) × ((printed_meaning h.book).opening h.books.players ≡ Some cash)
@@ -130,7 +130,7 @@ module _ (place : ℕ) (rest : List (ℕ × Entry)) (ending : Option FileFault) 
   first_told : (x : Entry) → Told (calls_from 1 ((place, x) ∷ rest)) (from_first place rest ending x)
   first_told (opens number players) g there f = book_told (numbered number) players g there f
   first_told (sells seat company tenths) g there f = no_game g there
-  first_told (buys seat company source par-space) g there f = no_game g there
+  first_told (buys seat company source par_space) g there f = no_game g there
   first_told (ends seat) g there f = no_game g there
   first_told closes g there f = no_game g there
   first_told (bills company amount) g there f = no_game g there

@@ -12,7 +12,7 @@ next_number card = min (card + 1) 65535
 abbrev pub card_then : ℕ → Entry → ℕ
 card_then card (opens book players) = card
 card_then card (sells seat company tenths) = card
-card_then card (buys seat company source par-space) = card
+card_then card (buys seat company source par_space) = card
 card_then card (ends seat) = card
 card_then card closes = next_number card
 card_then card (bills company amount) = card

@@ -4,7 +4,7 @@ use Rattle.std.proofs.lemmas.Bool.{le-ltb}
 use Rattle.faults.specs.Layers.{in_call, at_place}
 use Rattle.faults.specs.declared.file.FileFault.{FileFault}
 use Rattle.faults.specs.declared.file.FileRefusal.TheVariants.{OpenMisplaced, UnknownBook}
-use Rattle.faults.specs.declared.table.CallName.TheVariants.{Open as open-name}
+use Rattle.faults.specs.declared.table.CallName.TheVariants.{Open as open_name}
 use Rattle.faults.specs.declared.table.TableFault.{TableFault}
 use Rattle.entries.specs.Entry.{Entry, opens, view}
 use Rattle.entries.specs.Reading.{read_at}
@@ -48,16 +48,16 @@ module _ (file : List ℕ) (short : length file ≤ 65536) where
       not_open other = begins (view r) refl ∙ by r other
         where
           by : (d : Record) → ((book players : ℕ) → d ≡ Open book players → ⊥) → from_first 0 rest.0 rest.1 (view d) ≡ refused_at 0 OpenMisplaced
-          by (Open book players) no-open = absurd (no-open book players refl)
-          by (Sell seat company tenths) no-open = refl
-          by (Buy seat company source par-space) no-open = refl
-          by (End seat) no-open = refl
-          by Close no-open = refl
-          by (Bill company amount) no-open = refl
-          by (Payout company mode revenue) no-open = refl
-          by (Train company kind) no-open = refl
-          by (Done company) no-open = refl
-          by Reopen no-open = refl
+          by (Open book players) no_open = absurd (no_open book players refl)
+          by (Sell seat company tenths) no_open = refl
+          by (Buy seat company source par_space) no_open = refl
+          by (End seat) no_open = refl
+          by Close no_open = refl
+          by (Bill company amount) no_open = refl
+          by (Payout company mode revenue) no_open = refl
+          by (Train company kind) no_open = refl
+          by (Done company) no_open = refl
+          by Reopen no_open = refl
 
       module _ (number players : ℕ) (open_is : r ≡ Open number players) where
         with_book : (o : Option PrintedBook) → numbered number ≡ o → trace_of file ≡ from_book 0 rest.0 rest.1 (opens number players) o players
@@ -70,7 +70,7 @@ module _ (file : List ℕ) (short : length file ≤ 65536) where
 
         module _ (book : PrintedBook) (known : numbered number ≡ Some book) where
           abbrev answered : Result Books TableFault
-          answered = in_call open-name (open_answer (printed_meaning book) players)
+          answered = in_call open_name (open_answer (printed_meaning book) players)
 
           pub open_refused : (fault : FileFault) → at_place 0 answered ≡ Err fault → trace_of file ≡ refusal_line fault
           open_refused fault e = with_book (Some book) known ∙ ap (from_opening 0 rest.0 rest.1 (opens number players) book) e

@@ -7,7 +7,7 @@ use Rattle.entries.specs.Whole.{reading_by}
 use Rattle.entries.proofs.Steps.{at_end, stops, goes_on}
 use Rattle.listing.specs.Lines.{line}
 use Rattle.rulebook.specs.Book.{Book}
-use Rattle.ledger.specs.Crossings.{Crossing as Rule-crossing}
+use Rattle.ledger.specs.Crossings.{Crossing as RuleCrossing}
 use Rattle.ledger.specs.declared.books.Books.{Books}
 use Rattle.crossings.specs.Views.{listed}
 use Rattle.crossings.specs.declared.crossing.Crossing.{Crossing}
@@ -76,7 +76,7 @@ pub granted_lines : (b : Book) (s u : Books) (card place : ℕ) (e : Entry) (xs 
     → line place e ++ crossing_lines u.players (listed xs) ≡ record_lines b s card place e
 granted_lines b s u card place e xs ys p q r =
     ap (λ (v : Books). line place e ++ crossing_lines v.players (listed xs)) p
-    ∙ ap (λ (l : List Rule-crossing). line place e ++ crossing_lines s.players l) (ap listed q ∙ r)
+    ∙ ap (λ (l : List RuleCrossing). line place e ++ crossing_lines s.players l) (ap listed q ∙ r)
 
 -- a last piece that is also the answer
 pub last_made : {X Y : Type 0} (r : Result X Y) (a text b xs ys : List ℕ) → IfOk r (λ _. Pushed text b xs) → text ++ xs ≡ a ++ ys → IfOk r (λ _. Pushed a b ys)

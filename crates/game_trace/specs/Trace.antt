@@ -51,7 +51,7 @@ module _ (place : ℕ) (rest : List (ℕ × Entry)) (ending : Option FileFault) 
   abbrev pub from_first : Entry → List ℕ
   from_first (opens book players) = from_book (opens book players) (numbered book) players
   from_first (sells seat company tenths) = refused_at place OpenMisplaced
-  from_first (buys seat company source par-space) = refused_at place OpenMisplaced
+  from_first (buys seat company source par_space) = refused_at place OpenMisplaced
   from_first (ends seat) = refused_at place OpenMisplaced
   from_first closes = refused_at place OpenMisplaced
   from_first (bills company amount) = refused_at place OpenMisplaced

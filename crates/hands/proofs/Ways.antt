@@ -30,9 +30,9 @@ module _ {H L : Type 0} (k : Kind H L) (row : List H) (i j : ℕ) (l : L) where
       pub cannot_give : false ≡ k.can_give a l → carried k row i j l ≡ refused row i j CannotGive
       cannot_give f = let q = nth_some row j hj in rw (at_giver, q.1, ne_eqb i j ne, ← f)
 
-      module _ (b : H) (read-b : b ≡ get_or row j b) (gives : true ≡ k.can_give a l) where
+      module _ (b : H) (read_b : b ≡ get_or row j b) (gives : true ≡ k.can_give a l) where
         at_receiver : slice_get row j ≡ Some b
-        at_receiver = slice_get-get_or row j b hj ∙ ap Some (sym read-b)
+        at_receiver = slice_get-get_or row j b hj ∙ ap Some (sym read_b)
 
         pub cannot_take : false ≡ k.can_take b l → carried k row i j l ≡ refused row i j CannotTake
         cannot_take f = rw (at_giver, at_receiver, ne_eqb i j ne, ← gives, ← f)
@@ -46,16 +46,16 @@ granted k row i j l a b p q ne g t = rw (p, q, ne_eqb i j ne, g, t)
 
 -- each way of a carry: what holds of every refusal, and of the load moved, holds of the outcome
 module _ {H L : Type 0} (k : Kind H L) (row : List H) (i j : ℕ) (l : L) (P : Outcome H → Type 0)
-    (not-moved : (why : CarryRefusal) → P (refused row i j why))
-    (is-moved : (a b : H) → slice_get row i ≡ Some a → slice_get row j ≡ Some b → i ≢ j → k.can_give a l ≡ true → k.can_take b l ≡ true → P (Ok tt, set (set row i (k.given a l)) j (k.taken b l))) where
+    (not_moved : (why : CarryRefusal) → P (refused row i j why))
+    (is_moved : (a b : H) → slice_get row i ≡ Some a → slice_get row j ≡ Some b → i ≢ j → k.can_give a l ≡ true → k.can_take b l ≡ true → P (Ok tt, set (set row i (k.given a l)) j (k.taken b l))) where
   by_hands : (a b : Option H) (alike : Bool) → slice_get row i ≡ a → slice_get row j ≡ b → eqb i j ≡ alike → P (between k row i j l a b alike)
-  by_hands None b alike p q e = not-moved OutsideRow
-  by_hands (Some a) None alike p q e = not-moved OutsideRow
-  by_hands (Some a) (Some b) true p q e = not-moved SameHand
+  by_hands None b alike p q e = not_moved OutsideRow
+  by_hands (Some a) None alike p q e = not_moved OutsideRow
+  by_hands (Some a) (Some b) true p q e = not_moved SameHand
   by_hands (Some a) (Some b) false p q e =
       cond_both (k.can_give a l) _ _ P
-      (λ g. cond_both (k.can_take b l) _ _ P (λ t. is-moved a b p q (eqb-false i j e) g t) (λ _. not-moved CannotTake))
-      (λ _. not-moved CannotGive)
+      (λ g. cond_both (k.can_take b l) _ _ P (λ t. is_moved a b p q (eqb-false i j e) g t) (λ _. not_moved CannotTake))
+      (λ _. not_moved CannotGive)
 
   pub by_ways : P (carried k row i j l)
   by_ways = by_hands (slice_get row i) (slice_get row j) (eqb i j) refl refl refl

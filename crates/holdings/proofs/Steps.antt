@@ -71,9 +71,9 @@ module _ (s : Books) (company seat seen next : ℕ) (from : 2 ≤ seen) where
           ∙ ap (λ a. cond (ltb (seat_tenths s company (leader s company seat (seen - 2))) (seat_tenths s company a)) a (leader s company seat (seen - 2))) (ap (seat_after s seat) m ∙ sym seat_seen)
           ∙ ap (λ a. cond (ltb (seat_tenths s company a) (seat_tenths s company after)) after a) (sym leads)
 
-      module _ (held more : ℕ) (of-best : held ≡ seat_tenths s company best) (of-after : more ≡ seat_tenths s company after) where
+      module _ (held more : ℕ) (of_best : held ≡ seat_tenths s company best) (of_after : more ≡ seat_tenths s company after) where
         compared : ltb held more ≡ ltb (seat_tenths s company best) (seat_tenths s company after)
-        compared = ap (λ n. ltb n more) of-best ∙ ap (ltb (seat_tenths s company best)) of-after
+        compared = ap (λ n. ltb n more) of_best ∙ ap (ltb (seat_tenths s company best)) of_after
 
         pub gives_way : held < more → after ≡ leader s company seat (seen + 1 - 2)
         gives_way h = sym (leader_seen ∙ cond-true _ _ _ (sym compared ∙ lt-ltb held more h))

@@ -1,6 +1,6 @@
 // Whose turn it is, and the calls that end a round.
 ghost use Rattle.std.specs.Prelude.{◌≡◌, pos, ◌-ℤ◌};
-ghost use Rattle.ledger.specs.Answers.{on-stock-turn, on-operating-turn, stock-card, operating-card, below_floor};
+ghost use Rattle.ledger.specs.Answers.{on_stock_turn, on_operating_turn, stock_card, operating_card, below_floor};
 ghost use Rattle.ledger.specs.Holdings.{bank, marks_at, is_company};
 ghost use Rattle.ledger.specs.Stock.{close_answer};
 ghost use Rattle.ledger.specs.Operating.{reopen_answer};
@@ -10,13 +10,13 @@ use ledger::books::Books;
 use rulebook::book::RuleBook;
 
 fn is_stock_card(books: &Books, card: u16) -> bool
-    ensures { result ≡ stock-card books.now card }
+    ensures { result ≡ stock_card books.now card }
 {
     card == books.round && books.round % 2 == 1
 }
 
 fn is_operating_card(books: &Books, card: u16) -> bool
-    ensures { result ≡ operating-card books.now card }
+    ensures { result ≡ operating_card books.now card }
 {
     card == books.round && books.round % 2 == 0
 }
@@ -35,7 +35,7 @@ pub fn bank_cannot_give(books: &Books, marks: u32) -> bool
 }
 
 pub fn on_stock_turn(books: &Books, card: u16, seat: u8) -> Result<(), TableRefusal>
-    ensures { result ≡ on-stock-turn books.now card seat }
+    ensures { result ≡ on_stock_turn books.now card seat }
 {
     if !is_stock_card(books, card) {
         return Err(TableRefusal::WrongCard);
@@ -53,7 +53,7 @@ pub fn on_stock_turn(books: &Books, card: u16, seat: u8) -> Result<(), TableRefu
 }
 
 pub fn on_operating_turn(books: &Books, card: u16, company: u8) -> Result<(), TableRefusal>
-    ensures { result ≡ on-operating-turn books.now card company }
+    ensures { result ≡ on_operating_turn books.now card company }
 {
     if !is_operating_card(books, card) {
         return Err(TableRefusal::WrongCard);

@@ -9,11 +9,11 @@ use Rattle.std.proofs.lemmas.Nat.{shr_below, shr-shr, div-add-mod', mod_below, a
 use Rattle.std.proofs.lemmas.Bool.{eqb-true, eqb-false, eq-eqb, cases_lt}
 use Rattle.kinds.specs.Papers.{bit, sized}
 
-pub bit-bit_and : (t a b : ℕ) → bit t (bit_and a b) ≡ bit_and (bit t a) (bit t b)
-bit-bit_and t a b = ap (λ z. z % 2) (and_shr a b t) ∙ and_mod (a / 2 ^ t) (b / 2 ^ t) 1
+pub bit_of_and : (t a b : ℕ) → bit t (bit_and a b) ≡ bit_and (bit t a) (bit t b)
+bit_of_and t a b = ap (λ z. z % 2) (and_shr a b t) ∙ and_mod (a / 2 ^ t) (b / 2 ^ t) 1
 
-pub bit-bit_xor : (t a b : ℕ) → bit t (bit_xor a b) ≡ bit_xor (bit t a) (bit t b)
-bit-bit_xor t a b = ap (λ z. z % 2) (xor_shr a b t) ∙ xor_mod (a / 2 ^ t) (b / 2 ^ t) 1
+pub bit_of_xor : (t a b : ℕ) → bit t (bit_xor a b) ≡ bit_xor (bit t a) (bit t b)
+bit_of_xor t a b = ap (λ z. z % 2) (xor_shr a b t) ∙ xor_mod (a / 2 ^ t) (b / 2 ^ t) 1
 
 pub bit_zero : (t : ℕ) → bit t 0 ≡ 0
 bit_zero t = ap (λ z. z % 2) (zero-div (2 ^ t))
@@ -66,25 +66,25 @@ and_apart u v hu hv le =
 module _ (k p l : ℕ) (hp : p < 2 ^ k) (hl : l < 2 ^ k) where
   pub all_there : ((t : ℕ) → bit t l ≤ bit t p) → bit_and p l ≡ l
   all_there h =
-      by_bits k (bit_and p l) l (and_lt k p l hp hl) hl (λ t. bit-bit_and t p l ∙ and_under (bit t p) (bit t l) (bit_below t p) (bit_below t l) (h t))
+      by_bits k (bit_and p l) l (and_lt k p l hp hl) hl (λ t. bit_of_and t p l ∙ and_under (bit t p) (bit t l) (bit_below t p) (bit_below t l) (h t))
 
   pub none_there : ((t : ℕ) → bit t p + bit t l ≤ 1) → bit_and p l ≡ 0
   none_there h =
-      by_bits k (bit_and p l) 0 (and_lt k p l hp hl) (pow_pos k) (λ t. bit-bit_and t p l ∙ and_apart (bit t p) (bit t l) (bit_below t p) (bit_below t l) (h t) ∙ sym (bit_zero t))
+      by_bits k (bit_and p l) 0 (and_lt k p l hp hl) (pow_pos k) (λ t. bit_of_and t p l ∙ and_apart (bit t p) (bit t l) (bit_below t p) (bit_below t l) (h t) ∙ sym (bit_zero t))
 
 -- a bit that is there falls, one that is not rises
 pub falls : (t p l : ℕ) → bit_and p l ≡ l → bit t (bit_xor p l) + bit t l ≡ bit t p
 falls t p l e =
-    let x = bit-bit_xor t p l in
-    let a : bit_and (bit t p) (bit t l) ≡ bit t l = sym (bit-bit_and t p l) ∙ ap (bit t) e in
+    let x = bit_of_xor t p l in
+    let a : bit_and (bit t p) (bit t l) ≡ bit t l = sym (bit_of_and t p l) ∙ ap (bit t) e in
     let s = xor_add_and (bit t p) (bit t l) in
     omega (arith, x, a, s)
 
 pub rises : (t p l : ℕ) → bit_and p l ≡ 0 → bit t (bit_or p l) ≡ bit t p + bit t l
 rises t p l e =
     ap (bit t) (or_disjoint p l e ∙ sym (xor_disjoint p l e))
-    ∙ bit-bit_xor t p l
-    ∙ xor_disjoint (bit t p) (bit t l) (sym (bit-bit_and t p l) ∙ ap (bit t) e ∙ bit_zero t)
+    ∙ bit_of_xor t p l
+    ∙ xor_disjoint (bit t p) (bit t l) (sym (bit_of_and t p l) ∙ ap (bit t) e ∙ bit_zero t)
 
 pub named_one : (t n : ℕ) → (bit t n == 1) ≡ false → bit t n ≡ 0
 named_one t n e = let f = eqb-false (bit t n) 1 e in let h = bit_below t n in ⊎_elim (λ z. z) (λ o. absurd (f o)) (low (bit t n) h)

@@ -45,8 +45,8 @@ granted_after b s (Done card company) = done_after b s company
 granted_after b s (Reopen card) = reopen_after s
 
 abbrev pub if_granted : {A : Type 0} → Answer → A → A → A
-if_granted (Ok _) yes-granted not_granted = yes-granted
-if_granted (Err why) yes-granted not_granted = not_granted
+if_granted (Ok _) yes_granted not_granted = yes_granted
+if_granted (Err why) yes_granted not_granted = not_granted
 
 -- a refused call leaves the books as they were, and nothing crosses
 abbrev pub after : Book → Books → Call → Books

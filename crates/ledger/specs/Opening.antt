@@ -43,8 +43,8 @@ stack_of count = record { counts = counts_from count 0 8; eight = refl; small = 
 
 -- a company that nothing has happened to, with so much in its offering
 abbrev pub untouched : Papers → Company
-untouched in-offering =
-    record { papers = in-offering ∷ replicate 7 no_papers; space = 0; par = 0; floated = false; sold = replicate 6 0; served = 0 }
+untouched in_offering =
+    record { papers = in_offering ∷ replicate 7 no_papers; space = 0; par = 0; floated = false; sold = replicate 6 0; served = 0 }
 
 -- each company of the book has all nine certificates in its offering; what stands beyond them has none
 abbrev pub opening_companies : ℕ → List Company

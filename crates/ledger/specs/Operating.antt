@@ -4,7 +4,7 @@ use Rattle.rulebook.specs.Book.{Book}
 use Rattle.rulebook.specs.Lawful.{payable}
 use Rattle.rulebook.specs.declared.split.Split.{Split}
 use Rattle.faults.specs.declared.table.TableRefusal.TheVariants.{AlreadyPaidOut, AmountOutOfRange, RevenueOutOfRange, NoSuchMode, NoTrain, BankFloor, NotPaidOut, NotLowestKind, TrainOwed, CompanyOnTurn, WrongCard}
-use Rattle.ledger.specs.Answers.{Answer, granted, refused-if, and_then, by-carry, operating-card, on-operating-turn, below_floor}
+use Rattle.ledger.specs.Answers.{Answer, granted, refused_if, and_then, by_carry, operating_card, on_operating_turn, below_floor}
 use Rattle.ledger.specs.Crossings.{Crossing, pays, moves, with_company, all_crossed, crossing_outcome}
 use Rattle.ledger.specs.Holdings.{bank, treasury, pool, stack, marks_at, company_of, tenths_at, seat_tenths, director, lowest_kind, has_train, next_company}
 use Rattle.ledger.specs.Stock.{with_round}
@@ -22,10 +22,10 @@ bill_crossings s company amount = pays (treasury s company) bank amount ∷ []
 
 abbrev pub bill_answer : Books → ℕ → ℕ → ℕ → Answer
 bill_answer s card company amount =
-    and_then (on-operating-turn s card company)
-    (refused-if s.operating.paid AlreadyPaidOut
-    (refused-if (amount == 0 || nat_lt 1000 amount) AmountOutOfRange
-    (by-carry (crossing_outcome s (pays (treasury s company) bank amount)).0)))
+    and_then (on_operating_turn s card company)
+    (refused_if s.operating.paid AlreadyPaidOut
+    (refused_if (amount == 0 || nat_lt 1000 amount) AmountOutOfRange
+    (by_carry (crossing_outcome s (pays (treasury s company) bank amount)).0)))
 
 abbrev pub bill_after : Books → ℕ → ℕ → Books
 bill_after s company amount = all_crossed s (bill_crossings s company amount)
@@ -47,14 +47,14 @@ payout_sum s company split = dividend_sum s company split.dividend 1 s.players +
 abbrev pub payout_granted : Books → ℕ → ℕ → Option Split → Answer
 payout_granted s company revenue None = Err NoSuchMode
 payout_granted s company revenue (Some split) =
-    refused-if (nat_lt 0 revenue && not (has_train s company)) NoTrain
-    (refused-if (below_floor (marks_at s bank -ℤ pos (payout_sum s company split))) BankFloor granted)
+    refused_if (nat_lt 0 revenue && not (has_train s company)) NoTrain
+    (refused_if (below_floor (marks_at s bank -ℤ pos (payout_sum s company split))) BankFloor granted)
 
 abbrev pub payout_answer : Book → Books → ℕ → ℕ → ℕ → ℕ → Answer
 payout_answer b s card company mode revenue =
-    and_then (on-operating-turn s card company)
-    (refused-if s.operating.paid AlreadyPaidOut
-    (refused-if (not (payable revenue)) RevenueOutOfRange (payout_granted s company revenue (b.split mode revenue))))
+    and_then (on_operating_turn s card company)
+    (refused_if s.operating.paid AlreadyPaidOut
+    (refused_if (not (payable revenue)) RevenueOutOfRange (payout_granted s company revenue (b.split mode revenue))))
 
 -- to each of n seats from one on
 abbrev pub dividends : Books → ℕ → ℕ → ℕ → ℕ → List Crossing
@@ -109,10 +109,10 @@ first_payment s company price (Some seat) =
 
 abbrev pub train_answer : Book → Books → ℕ → ℕ → ℕ → Answer
 train_answer b s card company kind =
-    and_then (on-operating-turn s card company)
-    (refused-if (not s.operating.paid) NotPaidOut
-    (refused-if (not (same_kind (lowest_kind s) kind)) NotLowestKind
-    (by-carry (crossing_outcome s (first_payment s company (b.train_price kind) (director s company))).0)))
+    and_then (on_operating_turn s card company)
+    (refused_if (not s.operating.paid) NotPaidOut
+    (refused_if (not (same_kind (lowest_kind s) kind)) NotLowestKind
+    (by_carry (crossing_outcome s (first_payment s company (b.train_price kind) (director s company))).0)))
 
 abbrev pub train_crossings : Book → Books → ℕ → ℕ → List Crossing
 train_crossings b s company kind =
@@ -135,9 +135,9 @@ can_reach b s company (Some kind) =
 
 abbrev pub done_answer : Book → Books → ℕ → ℕ → Answer
 done_answer b s card company =
-    and_then (on-operating-turn s card company)
-    (refused-if (not s.operating.paid) NotPaidOut
-    (refused-if (not (has_train s company) && can_reach b s company (lowest_kind s)) TrainOwed granted))
+    and_then (on_operating_turn s card company)
+    (refused_if (not s.operating.paid) NotPaidOut
+    (refused_if (not (has_train s company) && can_reach b s company (lowest_kind s)) TrainOwed granted))
 
 abbrev pub served_record : Company → ℕ → Company
 served_record c round = record { papers = c.papers; space = c.space; par = c.par; floated = c.floated; sold = c.sold; served = round }
@@ -158,8 +158,8 @@ nobody_on_turn (Some company) = false
 
 abbrev pub reopen_answer : Books → ℕ → Answer
 reopen_answer s card =
-    refused-if (not (operating-card s card)) WrongCard
-    (refused-if (not (nobody_on_turn s.operating.company)) CompanyOnTurn granted)
+    refused_if (not (operating_card s card)) WrongCard
+    (refused_if (not (nobody_on_turn s.operating.company)) CompanyOnTurn granted)
 
 abbrev pub reopen_after : Books → Books
 reopen_after s =

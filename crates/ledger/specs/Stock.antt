@@ -6,7 +6,7 @@ use Rattle.rulebook.specs.Funding.{funded_tenths}
 use Rattle.rulebook.specs.declared.funding.Funding.{Funding}
 use Rattle.rulebook.specs.declared.funding.Funding.TheVariants.{Full, Sold}
 use Rattle.faults.specs.declared.table.TableRefusal.TheVariants.{NoSuchCompany, AlreadyBought, TenthsNotHeld, PoolLimit, DirectorNeeded, BankFloor, SoldThisRound, NoSuchSource, SourceEmpty, NoParSpace, CertificateLimit, ShareLimit, WrongCard, RoundNotOver, LastRound}
-use Rattle.ledger.specs.Answers.{Answer, granted, refused-if, and_then, by-carry, stock-card, round-over, on-stock-turn, below_floor}
+use Rattle.ledger.specs.Answers.{Answer, granted, refused_if, and_then, by_carry, stock_card, round_over, on_stock_turn, below_floor}
 use Rattle.ledger.specs.Certificates.{lowest_one, lowest_two, lowest_ordinary}
 use Rattle.ledger.specs.Crossings.{Crossing, pays, hands, with_company, all_crossed, crossing_outcome}
 use Rattle.ledger.specs.Holdings.{bank, treasury, offering, pool, seat_papers, marks_at, company_of, papers_at, tenths_at, seat_tenths, director, certificates_held, price_of, next_seat, largest_other, is_company, is_director, next_company}
@@ -43,13 +43,13 @@ director_needed s seat company tenths =
 
 abbrev pub sell_answer : Book → Books → ℕ → ℕ → ℕ → ℕ → Answer
 sell_answer b s card seat company tenths =
-    and_then (on-stock-turn s card seat)
-    (refused-if (not (is_company b company)) NoSuchCompany
-    (refused-if s.stock.bought AlreadyBought
-    (refused-if (tenths == 0 || nat_lt (seat_tenths s company seat) tenths) TenthsNotHeld
-    (refused-if (nat_lt b.pool_limit (tenths_at s company pool + tenths)) PoolLimit
-    (refused-if (director_needed s seat company tenths) DirectorNeeded
-    (refused-if (below_floor (marks_at s bank -ℤ pos (tenths * price_of b s company))) BankFloor granted))))))
+    and_then (on_stock_turn s card seat)
+    (refused_if (not (is_company b company)) NoSuchCompany
+    (refused_if s.stock.bought AlreadyBought
+    (refused_if (tenths == 0 || nat_lt (seat_tenths s company seat) tenths) TenthsNotHeld
+    (refused_if (nat_lt b.pool_limit (tenths_at s company pool + tenths)) PoolLimit
+    (refused_if (director_needed s seat company tenths) DirectorNeeded
+    (refused_if (below_floor (marks_at s bank -ℤ pos (tenths * price_of b s company))) BankFloor granted))))))
 
 abbrev pub sell_exchange : Books → ℕ → ℕ → ℕ → List Crossing
 sell_exchange s seat company tenths = cond (another_leads s seat company tenths) (exchange s company (largest_other s company seat) seat) []
@@ -126,21 +126,21 @@ float_short b s company source space =
 -- what the rules of the stock round say of a purchase, before any money is asked for
 abbrev pub may_buy : Book → Books → ℕ → ℕ → ℕ → ℕ → Answer
 may_buy b s seat company source space =
-    refused-if (not (is_company b company)) NoSuchCompany
-    (refused-if s.stock.bought AlreadyBought
-    (refused-if (sold_this_round s seat company) SoldThisRound
-    (refused-if (nat_lt 1 source) NoSuchSource
-    (refused-if (source_set s company source == 0) SourceEmpty
-    (refused-if (buys_director s company source && not (b.par space)) NoParSpace
-    (refused-if (nat_lt (b.certificate_limit s.players) (certificates_held s seat b.companies + 1)) CertificateLimit
-    (refused-if (nat_lt b.share_limit (seat_tenths s company seat + bought_size s company source)) ShareLimit granted)))))))
+    refused_if (not (is_company b company)) NoSuchCompany
+    (refused_if s.stock.bought AlreadyBought
+    (refused_if (sold_this_round s seat company) SoldThisRound
+    (refused_if (nat_lt 1 source) NoSuchSource
+    (refused_if (source_set s company source == 0) SourceEmpty
+    (refused_if (buys_director s company source && not (b.par space)) NoParSpace
+    (refused_if (nat_lt (b.certificate_limit s.players) (certificates_held s seat b.companies + 1)) CertificateLimit
+    (refused_if (nat_lt b.share_limit (seat_tenths s company seat + bought_size s company source)) ShareLimit granted)))))))
 
 abbrev pub buy_answer : Book → Books → ℕ → ℕ → ℕ → ℕ → ℕ → Answer
 buy_answer b s card seat company source space =
-    and_then (on-stock-turn s card seat)
+    and_then (on_stock_turn s card seat)
     (and_then (may_buy b s seat company source space)
-    (and_then (by-carry (crossing_outcome s (pays seat (payee b s company source) (cost b s company source space))).0)
-    (refused-if (float_short b s company source space) BankFloor granted)))
+    (and_then (by_carry (crossing_outcome s (pays seat (payee b s company source) (cost b s company source space))).0)
+    (refused_if (float_short b s company source space) BankFloor granted)))
 
 -- the exchange that a purchase brings: the buyer's tenths then exceed the director's
 abbrev pub overtakes : Books → ℕ → ℕ → Option ℕ → List Crossing
@@ -187,7 +187,7 @@ buy_after b s seat company source space =
 -- END
 
 abbrev pub end_answer : Books → ℕ → ℕ → Answer
-end_answer s card seat = on-stock-turn s card seat
+end_answer s card seat = on_stock_turn s card seat
 
 -- a turn without sale or purchase is a pass
 abbrev pub turn_ended : Books → ℕ → Stock
@@ -208,9 +208,9 @@ end_after s seat = with_stock s (turn_ended s seat)
 
 abbrev pub close_answer : Books → ℕ → Answer
 close_answer s card =
-    refused-if (not (stock-card s card)) WrongCard
-    (refused-if (not (round-over s)) RoundNotOver
-    (refused-if (s.round == 9999) LastRound granted))
+    refused_if (not (stock_card s card)) WrongCard
+    (refused_if (not (round_over s)) RoundNotOver
+    (refused_if (s.round == 9999) LastRound granted))
 
 -- after the last seat that sold or bought, else this round's first seat
 abbrev pub next_first : Books → Option ℕ → ℕ

@@ -8,7 +8,7 @@ use Rattle.entries.specs.Entry.{Entry, opens, sells, buys, ends, closes, bills, 
 abbrev pub words : Entry → List ℕ × List ℕ
 words (opens book players) = (codes "open", book ∷ (players ∷ []))
 words (sells seat company tenths) = (codes "sell", seat ∷ (company ∷ (tenths ∷ [])))
-words (buys seat company source par-space) = (codes "buy", seat ∷ (company ∷ (source ∷ (par-space ∷ []))))
+words (buys seat company source par_space) = (codes "buy", seat ∷ (company ∷ (source ∷ (par_space ∷ []))))
 words (ends seat) = (codes "end", seat ∷ [])
 words closes = (codes "close", [])
 words (bills company amount) = (codes "bill", company ∷ (amount ∷ []))

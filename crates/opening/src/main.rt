@@ -1,9 +1,9 @@
 // Prints the bank and seat lines after the opening cash of a printed book is dealt: opening BOOK PLAYERS.
 #![tactic(auto)]
 
-use anyhow::anyhow;
 use dealing::listing::opening_text;
 use std::io::Write;
+use std::process::ExitCode;
 use std::{env, io};
 use text::word_number;
 
@@ -27,12 +27,13 @@ fn print_opening(rt: &HostRuntime, book: u32, players: u32) -> io::Result<()> {
         .write_all(opening_text(book, players).as_bytes())
 }
 
-fn main(rt: HostRuntime) -> anyhow::Result<()> {
+fn main(rt: HostRuntime) -> anyhow::Result<ExitCode> {
     let Some((book, players)) = numbers(&rt) else {
-        return Err(anyhow!(
+        eprintln!(rt;
             "opening: give two whole numbers, the book and the players, as in: opening 1 3"
-        ));
+        )?;
+        return Ok(ExitCode::FAILURE);
     };
     print_opening(&rt, book, players)?;
-    Ok(())
+    Ok(ExitCode::SUCCESS)
 }

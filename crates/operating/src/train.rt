@@ -2,7 +2,7 @@
 ghost use Rattle.std.specs.Prelude.{◌≡◌};
 ghost use Rattle.ledger.specs.Holdings.{director, lowest_kind, marks_at, treasury};
 ghost use Rattle.ledger.specs.Crossings.{crossing_outcome};
-ghost use Rattle.ledger.specs.Answers.{by-carry};
+ghost use Rattle.ledger.specs.Answers.{by_carry};
 ghost use Rattle.ledger.specs.Operating.{missing, needs_help, same_kind, first_payment, train_answer};
 
 use faults::table::TableRefusal;
@@ -43,7 +43,7 @@ fn is_lowest(books: &Books, kind: u8) -> bool
 
 // The first carry of cash is the director's, if he has to help, else the company's.
 fn can_afford(books: &Books, company: u8, price: u16) -> Result<(), TableRefusal>
-    ensures { result ≡ by-carry (crossing_outcome books.now (first_payment books.now company price (director books.now company))).0 }
+    ensures { result ≡ by_carry (crossing_outcome books.now (first_payment books.now company price (director books.now company))).0 }
 {
     let treasury = books.players as usize + company as usize;
     match director_of(books, company) {

@@ -7,7 +7,7 @@ use Rattle.printed.specs.Figures.{by_players, float, certificate_limit, price, p
 
 -- a printed book, by what the two do not share
 abbrev pub printed : ℕ → List (Option ℕ) → Funding → (ℕ → ℕ → ℕ) → Book
-printed bank opening funding sale-step =
+printed bank opening funding sale_step =
     record {
       bank = bank;
       opening = by_players opening None;
@@ -20,7 +20,7 @@ printed bank opening funding sale-step =
       spaces = 16;
       price = price;
       par = par;
-      after_sale = λ space tenths. on_chart space (sale-step tenths space);
+      after_sale = λ space tenths. on_chart space (sale_step tenths space);
       after_payout = after_payout;
       split = split;
       train_kinds = 5;

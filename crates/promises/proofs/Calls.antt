@@ -5,7 +5,7 @@ use Rattle.faults.specs.declared.table.TableRefusal.TheVariants.{NoSuchCompany, 
 use Rattle.rulebook.specs.Book.{Book}
 use Rattle.rulebook.specs.Lawful.{Lawful, Between, payable}
 use Rattle.rulebook.specs.declared.split.Split.{Split}
-use Rattle.ledger.specs.Answers.{granted, on-stock-turn, on-operating-turn, below_floor, by-carry}
+use Rattle.ledger.specs.Answers.{granted, on_stock_turn, on_operating_turn, below_floor, by_carry}
 use Rattle.ledger.specs.Crossings.{pays, crossing_outcome}
 use Rattle.ledger.specs.Holdings.{bank, pool, marks_at, tenths_at, seat_tenths, price_of, is_company, director, has_train, lowest_kind}
 use Rattle.ledger.specs.Lives.{answer, crossings_of}
@@ -40,7 +40,7 @@ module _ (b : Book) (law : Lawful b) (s : Books) (ok : Sound b s) (turn : OneOf 
 
   pub sell_carried : (card seat company tenths : ℕ) → sell_answer b s card seat company tenths ≡ Ok tt → Carriable s (crossings_of b s (Sell card seat company tenths))
   sell_carried card seat company tenths e =
-      let p = both_granted (on-stock-turn s card seat) _ e in
+      let p = both_granted (on_stock_turn s card seat) _ e in
       let q = stock_turn s card seat p.0 in
       let a = test_passed (not (is_company b company)) NoSuchCompany _ p.1 in
       let c = company_there b company a.0 in
@@ -53,10 +53,10 @@ module _ (b : Book) (law : Lawful b) (s : Books) (ok : Sound b s) (turn : OneOf 
 
   pub buy_carried : (card seat company source space : ℕ) → buy_answer b s card seat company source space ≡ Ok tt → Carriable s (crossings_of b s (Buy card seat company source space))
   buy_carried card seat company source space e =
-      let p = both_granted (on-stock-turn s card seat) _ e in
+      let p = both_granted (on_stock_turn s card seat) _ e in
       let q = stock_turn s card seat p.0 in
       let m = both_granted (may_buy b s seat company source space) _ p.1 in
-      let n = both_granted (by-carry (crossing_outcome s (pays seat (payee b s company source) (cost b s company source space))).0) _ m.1 in
+      let n = both_granted (by_carry (crossing_outcome s (pays seat (payee b s company source) (cost b s company source space))).0) _ m.1 in
       let a = test_passed (not (is_company b company)) NoSuchCompany _ m.0 in
       let c = company_there b company a.0 in
       let d = test_passed s.stock.bought AlreadyBought _ a.1 in
@@ -67,7 +67,7 @@ module _ (b : Book) (law : Lawful b) (s : Books) (ok : Sound b s) (turn : OneOf 
 
   pub bill_carried : (card company amount : ℕ) → bill_answer s card company amount ≡ Ok tt → Carriable s (crossings_of b s (Bill card company amount))
   bill_carried card company amount e =
-      let p = both_granted (on-operating-turn s card company) _ e in
+      let p = both_granted (on_operating_turn s card company) _ e in
       let a = test_passed s.operating.paid AlreadyPaidOut _ p.1 in
       let d = test_passed (eqb amount 0 || ltb 1000 amount) AmountOutOfRange _ a.1 in
       (carry_granted _ d.1, tt)
@@ -81,7 +81,7 @@ module _ (b : Book) (law : Lawful b) (s : Books) (ok : Sound b s) (turn : OneOf 
 
   pub payout_made : (card company mode revenue : ℕ) → payout_answer b s card company mode revenue ≡ Ok tt → Carriable s (crossings_of b s (Payout card company mode revenue))
   payout_made card company mode revenue e =
-      let p = both_granted (on-operating-turn s card company) _ e in
+      let p = both_granted (on_operating_turn s card company) _ e in
       let c = on_turn_there b.companies s.operating.company company turn (operating_turn s card company p.0) in
       let a = test_passed s.operating.paid AlreadyPaidOut _ p.1 in
       let d = test_passed (not (payable revenue)) RevenueOutOfRange _ a.1 in
@@ -89,7 +89,7 @@ module _ (b : Book) (law : Lawful b) (s : Books) (ok : Sound b s) (turn : OneOf 
 
   pub train_carried : (card company kind : ℕ) → train_answer b s card company kind ≡ Ok tt → Carriable s (crossings_of b s (Train card company kind))
   train_carried card company kind e =
-      let p = both_granted (on-operating-turn s card company) _ e in
+      let p = both_granted (on_operating_turn s card company) _ e in
       let c = on_turn_there b.companies s.operating.company company turn (operating_turn s card company p.0) in
       let a = test_passed (not s.operating.paid) NotPaidOut _ p.1 in
       let d = test_passed (not (same_kind (lowest_kind s) kind)) NotLowestKind _ a.1 in

@@ -9,7 +9,7 @@ use Rattle.kinds.specs.Papers.{bit}
 use Rattle.rulebook.specs.Book.{Book}
 use Rattle.rulebook.specs.Lawful.{Lawful, Between, payable}
 use Rattle.rulebook.specs.declared.split.Split.{Split}
-use Rattle.ledger.specs.Answers.{granted, on-stock-turn, on-operating-turn, below_floor, by-carry, stock-card, operating-card, round-over}
+use Rattle.ledger.specs.Answers.{granted, on_stock_turn, on_operating_turn, below_floor, by_carry, stock_card, operating_card, round_over}
 use Rattle.ledger.specs.Crossings.{pays, crossing_outcome}
 use Rattle.ledger.specs.Holdings.{bank, treasury, pool, marks_at, tenths_at, seat_tenths, price_of, is_company, director, has_train, lowest_kind, certificates_held, company_of, papers_at, trains_held}
 use Rattle.ledger.specs.Lives.{answer}
@@ -38,7 +38,7 @@ use Rattle.promises.proofs.Whole.{life_stands, life_led}
 module _ (P : CarryFault → Type 0) (b : Book) (s : Books) where
   sell_refused : (card seat company tenths : ℕ) → Faults P (sell_answer b s card seat company tenths)
   sell_refused card seat company tenths =
-      either_refused P (on-stock-turn s card seat) _ (stock_turn_refused P s card seat) (λ _.
+      either_refused P (on_stock_turn s card seat) _ (stock_turn_refused P s card seat) (λ _.
       test_refused P (not (is_company b company)) NoSuchCompany _ (lit≤ tt) (λ _.
       test_refused P s.stock.bought AlreadyBought _ (lit≤ tt) (λ _.
       test_refused P (eqb tenths 0 || ltb (seat_tenths s company seat) tenths) TenthsNotHeld _ (lit≤ tt) (λ _.
@@ -48,8 +48,8 @@ module _ (P : CarryFault → Type 0) (b : Book) (s : Books) where
 
   close_refused : (card : ℕ) → Faults P (close_answer s card)
   close_refused card =
-      test_refused P (not (stock-card s card)) WrongCard _ (lit≤ tt) (λ _.
-      test_refused P (not (round-over s)) RoundNotOver _ (lit≤ tt) (λ _.
+      test_refused P (not (stock_card s card)) WrongCard _ (lit≤ tt) (λ _.
+      test_refused P (not (round_over s)) RoundNotOver _ (lit≤ tt) (λ _.
       test_refused P (eqb s.round 9999) LastRound granted (lit≤ tt) (λ _. none_granted P)))
 
   split_refused : (company revenue : ℕ) (o : Option Split) → Faults P (payout_granted s company revenue o)
@@ -60,19 +60,19 @@ module _ (P : CarryFault → Type 0) (b : Book) (s : Books) where
 
   payout_refused : (card company mode revenue : ℕ) → Faults P (payout_answer b s card company mode revenue)
   payout_refused card company mode revenue =
-      either_refused P (on-operating-turn s card company) _ (operating_turn_refused P s card company) (λ _.
+      either_refused P (on_operating_turn s card company) _ (operating_turn_refused P s card company) (λ _.
       test_refused P s.operating.paid AlreadyPaidOut _ (lit≤ tt) (λ _.
       test_refused P (not (payable revenue)) RevenueOutOfRange _ (lit≤ tt) (λ _. split_refused company revenue (b.split mode revenue))))
 
   done_refused : (card company : ℕ) → Faults P (done_answer b s card company)
   done_refused card company =
-      either_refused P (on-operating-turn s card company) _ (operating_turn_refused P s card company) (λ _.
+      either_refused P (on_operating_turn s card company) _ (operating_turn_refused P s card company) (λ _.
       test_refused P (not s.operating.paid) NotPaidOut _ (lit≤ tt) (λ _.
       test_refused P (not (has_train s company) && can_reach b s company (lowest_kind s)) TrainOwed granted (lit≤ tt) (λ _. none_granted P)))
 
   reopen_refused : (card : ℕ) → Faults P (reopen_answer s card)
   reopen_refused card =
-      test_refused P (not (operating-card s card)) WrongCard _ (lit≤ tt) (λ _.
+      test_refused P (not (operating_card s card)) WrongCard _ (lit≤ tt) (λ _.
       test_refused P (not (nobody_on_turn s.operating.company)) CompanyOnTurn granted (lit≤ tt) (λ _. none_granted P))
 
   may_buy_refused : (seat company source space : ℕ) → Faults P (may_buy b s seat company source space)
@@ -108,7 +108,7 @@ not_a_seat : (players company seat : ℕ) → seat ≤ players → 1 ≤ company
 not_a_seat players company seat h k e = omega arith
 
 module _ (b : Book) (law : Lawful b) (s : Books) (ok : Standing b s) where
-  payment_refused : (giver receiver n : ℕ) → giver < 15 → receiver < 15 → giver ≢ receiver → Faults Lacks (by-carry (crossing_outcome s (pays giver receiver n)).0)
+  payment_refused : (giver receiver n : ℕ) → giver < 15 → receiver < 15 → giver ≢ receiver → Faults Lacks (by_carry (crossing_outcome s (pays giver receiver n)).0)
   payment_refused giver receiver n hi hj ne =
       carry_refused Lacks (crossing_outcome s (pays giver receiver n)).0 (pay_refused b.bank law.bank_range.1 s.cash ok.sound.cash_row giver receiver n hi hj ne)
 
@@ -129,40 +129,40 @@ module _ (b : Book) (law : Lawful b) (s : Books) (ok : Standing b s) where
         (λ _. (omega arith, λ e. omega arith))
     payee_apart seat (suc source) low high = (omega arith, λ e. omega arith)
 
-    company_refused : (n : ℕ) → Faults Lacks (by-carry (crossing_outcome s (pays (treasury s company) bank n)).0)
+    company_refused : (n : ℕ) → Faults Lacks (by_carry (crossing_outcome s (pays (treasury s company) bank n)).0)
     company_refused n = payment_refused (treasury s company) bank n treasury_inside (omega arith) (treasury_apart bank (omega arith))
 
-    first_refused : (price : ℕ) (o : Option ℕ) → ((seat : ℕ) → o ≡ Some seat → seat ≤ s.players) → Faults Lacks (by-carry (crossing_outcome s (first_payment s company price o)).0)
+    first_refused : (price : ℕ) (o : Option ℕ) → ((seat : ℕ) → o ≡ Some seat → seat ≤ s.players) → Faults Lacks (by_carry (crossing_outcome s (first_payment s company price o)).0)
     first_refused price None seated = company_refused price
     first_refused price (Some seat) seated =
         let inside = seated seat refl in
-        cond_both (needs_help s company price) (pays seat (treasury s company) (missing s company price)) (pays (treasury s company) bank price) (λ x. Faults Lacks (by-carry (crossing_outcome s x).0))
+        cond_both (needs_help s company price) (pays seat (treasury s company) (missing s company price)) (pays (treasury s company) bank price) (λ x. Faults Lacks (by_carry (crossing_outcome s x).0))
         (λ _. payment_refused seat (treasury s company) (missing s company price) (seat_inside seat inside) treasury_inside (λ e. treasury_apart seat inside (sym e)))
         (λ _. company_refused price)
 
-  on_turn : (card company : ℕ) → on-operating-turn s card company ≡ Ok tt → Between 1 b.companies company
+  on_turn : (card company : ℕ) → on_operating_turn s card company ≡ Ok tt → Between 1 b.companies company
   on_turn card company e = on_turn_there b.companies s.operating.company company ok.on_turn (operating_turn s card company e)
 
   buy_refused : (card seat company source space : ℕ) → Faults Lacks (buy_answer b s card seat company source space)
   buy_refused card seat company source space =
-      either_refused Lacks (on-stock-turn s card seat) _ (stock_turn_refused Lacks s card seat) (λ turn.
+      either_refused Lacks (on_stock_turn s card seat) _ (stock_turn_refused Lacks s card seat) (λ turn.
       either_refused Lacks (may_buy b s seat company source space) _ (may_buy_refused Lacks b s seat company source space) (λ may.
       let q = stock_turn s card seat turn in
       let there = company_there b company (test_passed (not (is_company b company)) NoSuchCompany _ may).0 in
       let to = payee_apart company there seat source q.0 q.1 in
-      either_refused Lacks (by-carry (crossing_outcome s (pays seat (payee b s company source) (cost b s company source space))).0) _
+      either_refused Lacks (by_carry (crossing_outcome s (pays seat (payee b s company source) (cost b s company source space))).0) _
       (payment_refused seat (payee b s company source) (cost b s company source space) (seat_inside seat q.1) to.0 to.1) (λ _.
       test_refused Lacks (float_short b s company source space) BankFloor granted (lit≤ tt) (λ _. none_granted Lacks))))
 
   bill_refused : (card company amount : ℕ) → Faults Lacks (bill_answer s card company amount)
   bill_refused card company amount =
-      either_refused Lacks (on-operating-turn s card company) _ (operating_turn_refused Lacks s card company) (λ turn.
+      either_refused Lacks (on_operating_turn s card company) _ (operating_turn_refused Lacks s card company) (λ turn.
       test_refused Lacks s.operating.paid AlreadyPaidOut _ (lit≤ tt) (λ _.
       test_refused Lacks (eqb amount 0 || ltb 1000 amount) AmountOutOfRange _ (lit≤ tt) (λ _. company_refused company (on_turn card company turn) amount)))
 
   train_refused : (card company kind : ℕ) → Faults Lacks (train_answer b s card company kind)
   train_refused card company kind =
-      either_refused Lacks (on-operating-turn s card company) _ (operating_turn_refused Lacks s card company) (λ turn.
+      either_refused Lacks (on_operating_turn s card company) _ (operating_turn_refused Lacks s card company) (λ turn.
       test_refused Lacks (not s.operating.paid) NotPaidOut _ (lit≤ tt) (λ _.
       test_refused Lacks (not (same_kind (lowest_kind s) kind)) NotLowestKind _ (lit≤ tt) (λ _.
       first_refused company (on_turn card company turn) (b.train_price kind) (director s company) (λ seat found. (director_holds s company seat found).2))))

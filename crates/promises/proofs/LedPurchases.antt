@@ -6,7 +6,7 @@ use Rattle.kinds.specs.Papers.{bit, sized, size}
 use Rattle.kinds.specs.Bits.{bit_below, named_one}
 use Rattle.rulebook.specs.Book.{Book}
 use Rattle.rulebook.specs.Lawful.{Lawful, Between}
-use Rattle.ledger.specs.Answers.{on-stock-turn}
+use Rattle.ledger.specs.Answers.{on_stock_turn}
 use Rattle.ledger.specs.Certificates.{lowest_one}
 use Rattle.ledger.specs.Crossings.{Crossing, pays, crossed, all_crossed}
 use Rattle.ledger.specs.Holdings.{bank, treasury, company_of, papers_at, seat_tenths, director, certificates_held, is_company}
@@ -149,7 +149,7 @@ pub record MayBuy (b : Book) (s : Books) (seat company source : ℕ) : Type 0 wh
 
 pub may_buy_then : (b : Book) (s : Books) (card seat company source space : ℕ) → buy_answer b s card seat company source space ≡ Ok tt → MayBuy b s seat company source
 may_buy_then b s card seat company source space e =
-    let turn = both_granted (on-stock-turn s card seat) _ e in
+    let turn = both_granted (on_stock_turn s card seat) _ e in
     let t = on_turn s card seat turn.0 in
     let may = (both_granted (may_buy b s seat company source space) _ turn.1).0 in
     let a1 = test_passed (not (is_company b company)) NoSuchCompany _ may in
@@ -296,8 +296,8 @@ module _ (b : Book) (lawful : Lawful b) (s : Books) (ok : Sound b s) (led : Led 
   settled : (o : Option ℕ) → director t company ≡ o → After (all_crossed t (overtakes t seat company o))
   settled None e =
       no_exchange (λ o o1 on has.
-      let found-one = director_found t company o (eq-eqb (heads t company (o + 1)) 1 has) o1 on in
-      let both : None ≡ Some found-one.0 = sym e ∙ found-one.1 in
+      let found_one = director_found t company o (eq-eqb (heads t company (o + 1)) 1 has) o1 on in
+      let both : None ≡ Some found_one.0 = sym e ∙ found_one.1 in
       let z : ◌≡◌ {A = ℕ} 0 1 = cc in
       absurd (omega (arith, z)))
   settled (Some old) e = by_test (not (eqb old seat) && ltb (seat_tenths t company old) (seat_tenths t company seat)) refl
@@ -312,10 +312,10 @@ module _ (b : Book) (lawful : Lawful b) (s : Books) (ok : Sound b s) (led : Led 
       alike x y k = omega arith
 
       by_test : (test : Bool) → (not (eqb old seat) && ltb (seat_tenths t company old) (seat_tenths t company seat)) ≡ test → After (all_crossed t (cond test (exchange t company seat old) []))
-      by_test true yes-test =
+      by_test true yes_test =
           let d = director_holds t company old e in
           let holds = eqb-true (heads t company (old + 1)) 1 d.0 in
-          let parts = and_parts (not (eqb old seat)) (ltb (seat_tenths t company old) (seat_tenths t company seat)) yes-test in
+          let parts = and_parts (not (eqb old seat)) (ltb (seat_tenths t company old) (seat_tenths t company seat)) yes_test in
           let apart : seat ≢ old = λ same. eqb-false old seat (not-true _ parts.0) (sym same) in
           let more = ltb-true (tens t company (old + 1)) (tens t company (seat + 1)) parts.1 in
           let has = two_below (tens t company (old + 1)) (tens t company (seat + 1)) (at_least_two (papers_at t company (old + 1)).certificates holds) more in

@@ -6,7 +6,7 @@ use Rattle.kinds.specs.Papers.{bit, sized, size, no_papers}
 use Rattle.kinds.specs.declared.papers.Papers.{Papers}
 use Rattle.rulebook.specs.Book.{Book}
 use Rattle.rulebook.specs.Lawful.{Lawful, Between}
-use Rattle.ledger.specs.Answers.{on-stock-turn, stock-card, round-over}
+use Rattle.ledger.specs.Answers.{on_stock_turn, stock_card, round_over}
 use Rattle.ledger.specs.Certificates.{lowest_ordinary}
 use Rattle.ledger.specs.Crossings.{Crossing, pays, hands, moves, crossed, all_crossed, with_company}
 use Rattle.ledger.specs.Holdings.{bank, pool, seat_papers, no_company, company_of, papers_at, tenths_at, seat_tenths, price_of, largest_other, is_director, is_seat, is_company}
@@ -164,10 +164,10 @@ led_after b s u company xs low led only same rows here =
     (cases_eq other company))))
 
 -- what a granted turn says
-pub on_turn : (s : Books) (card seat : ℕ) → on-stock-turn s card seat ≡ Ok tt → (1 ≤ seat) × (seat ≤ s.players)
+pub on_turn : (s : Books) (card seat : ℕ) → on_stock_turn s card seat ≡ Ok tt → (1 ≤ seat) × (seat ≤ s.players)
 on_turn s card seat e =
-    let a = test_passed (not (stock-card s card)) WrongCard _ e in
-    let b = test_passed (round-over s) RoundOver _ a.1 in
+    let a = test_passed (not (stock_card s card)) WrongCard _ e in
+    let b = test_passed (round_over s) RoundOver _ a.1 in
     let c = test_passed (not (is_seat s seat)) NoSuchSeat _ b.1 in
     let d = and_parts (leb 1 seat) (leb seat s.players) (not-false _ c.0) in
     (leb-true 1 seat d.0, leb-true seat s.players d.1)
@@ -186,7 +186,7 @@ pub record MaySell (b : Book) (s : Books) (seat company tenths : ℕ) : Type 0 w
 
 pub may_sell : (b : Book) (s : Books) (card seat company tenths : ℕ) → sell_answer b s card seat company tenths ≡ Ok tt → MaySell b s seat company tenths
 may_sell b s card seat company tenths e =
-    let turn = both_granted (on-stock-turn s card seat) _ e in
+    let turn = both_granted (on_stock_turn s card seat) _ e in
     let t = on_turn s card seat turn.0 in
     let a1 = test_passed (not (is_company b company)) NoSuchCompany _ turn.1 in
     let a2 = test_passed s.stock.bought AlreadyBought _ a1.1 in
@@ -285,8 +285,8 @@ module _ (b : Book) (lawful : Lawful b) (s : Books) (ok : Sound b s) (led : Led 
       (λ p. tens s company p) (λ p. heads s company p) (λ p. tens (all_crossed s (rest s)) company p) (λ p. heads (all_crossed s (rest s)) company p) x
       (led_in b s led company may.in_book) h
       (λ own p p1 pn apart.
-      let keeps-lead = ⊎_elim (λ f. absurd (true≢false (sym (eq-eqb (heads s company (seat + 1)) 1 own) ∙ f))) (λ f. f) (and_cases (is_director s company seat) _ e) in
-      kept_enough (tens s company (seat + 1)) (tens s company (p + 1)) x tenths (tens s company (new + 1)) (ltb-false (keeps s seat company tenths) (seat_tenths s company new) keeps-lead) may.held less (best_of p p1 pn apart))
+      let keeps_lead = ⊎_elim (λ f. absurd (true≢false (sym (eq-eqb (heads s company (seat + 1)) 1 own) ∙ f))) (λ f. f) (and_cases (is_director s company seat) _ e) in
+      kept_enough (tens s company (seat + 1)) (tens s company (p + 1)) x tenths (tens s company (new + 1)) (ltb-false (keeps s seat company tenths) (seat_tenths s company new) keeps_lead) may.held less (best_of p p1 pn apart))
 
   only_first : (test : Bool) → Only company (cond test (exchange s company new seat) [])
   only_first true = (refl, (refl, tt))

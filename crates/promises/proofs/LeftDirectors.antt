@@ -234,8 +234,8 @@ module _ (b : Book) (lawful : Lawful b) (s : Books) (ok : Sound b s) (led : Led 
         no_exchange (Some old) is p = by_test (exceeds old) refl
           where
             by_test : (t : Bool) → exceeds old ≡ t → heads (all_crossed with_it (cond t (exchange with_it company seat old) [])) company p ≡ heads with_it company p
-            by_test true yes-test =
-                let parts = and_parts (not (eqb old seat)) (ltb (seat_tenths with_it company old) (seat_tenths with_it company seat)) yes-test in
+            by_test true yes_test =
+                let parts = and_parts (not (eqb old seat)) (ltb (seat_tenths with_it company old) (seat_tenths with_it company seat)) yes_test in
                 let apart = eqb-false old seat (not-true _ parts.0) in
                 absurd (not_less_then (seat_tenths s company old) (seat_tenths s company seat) (sized size 0 9 found) (bought_size s company source) (seat_tenths with_it company old) (seat_tenths with_it company seat)
                 (enough old is apart) (first_sized b lawful s ok led seat company source space may).tenths (held old is apart) (got old is apart)

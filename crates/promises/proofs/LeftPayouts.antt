@@ -4,7 +4,7 @@ use Rattle.std.proofs.lemmas.Bool.{cases_eq}
 use Rattle.rulebook.specs.Book.{Book}
 use Rattle.rulebook.specs.Lawful.{Lawful, Between}
 use Rattle.rulebook.specs.declared.split.Split.{Split}
-use Rattle.ledger.specs.Answers.{on-operating-turn}
+use Rattle.ledger.specs.Answers.{on_operating_turn}
 use Rattle.ledger.specs.Crossings.{Crossing, pays}
 use Rattle.ledger.specs.Holdings.{bank, treasury, seat_tenths}
 use Rattle.ledger.specs.Lives.{answer, crossings_of, after}
@@ -33,7 +33,7 @@ pub gifts_append : (xs ys : List Crossing) (h : HandOf) (tag : ℕ) → gifts (x
 gifts_append [] ys h tag = noughts (gifts ys h tag)
 gifts_append (x ∷ xs) ys h tag = plus (gifts (xs ++ ys) h tag) (gifts xs h tag) (gifts ys h tag) (gifts_append xs ys h tag) (gift x h tag)
 
-pub company_on_turn : (b : Book) (s : Books) → Standing b s → (card company : ℕ) → on-operating-turn s card company ≡ Ok tt → Between 1 b.companies company
+pub company_on_turn : (b : Book) (s : Books) → Standing b s → (card company : ℕ) → on_operating_turn s card company ≡ Ok tt → Between 1 b.companies company
 company_on_turn b s ok card company e = subst (OneOf b.companies) (operating_turn s card company e) ok.on_turn
 
 pub sum_of : (a b x y : ℕ) → a ≡ x → b ≡ y → a + b ≡ x + y
@@ -121,7 +121,7 @@ module _ (b : Book) (law : Lawful b) (s : Books) (ok : Standing b s) (card compa
       let n = s.players in
       let d = split.dividend in
       let share = company_share s company split in
-      let there = company_on_turn b s ok card company (both_granted (on-operating-turn s card company) _ e).0 in
+      let there = company_on_turn b s ok card company (both_granted (on_operating_turn s card company) _ e).0 in
       let far = treasury_no_bank b law s ok company in
       record {
         seat_gets =

@@ -168,7 +168,7 @@ module _ (b : Book) (law : Lawful b) (s : Books) (ok : Standing b s) (card seat 
       let start = float_money b s company source space in
       let fs = pays bank (treasury s company) start ∷ [] in
       let float = ap (λ (t : Bool). cond t (pays bank (treasury s company) (float_money b s company source space) ∷ []) []) flies in
-      let is-bank = payee_bank b s company source flies in
+      let is_bank = payee_bank b s company source flies in
       let far = treasury_no_bank b law s ok company in
       let apart = payee_other b s company source seat no_bank no_company in
       record {
@@ -178,16 +178,16 @@ module _ (b : Book) (law : Lawful b) (s : Books) (ok : Standing b s) (card seat 
             (first_only _ money (cash_gave fs float seat money 0 (hit seat seat money refl) (ended _ 0 (miss seat bank start no_bank))));
         bank_gets_and_pays =
             both b law s ok c e (cash_hand bank) tt 0 money start
-            (first_only _ money (cash_got fs float bank money 0 (hit bank to money (sym is-bank)) (ended _ 0 (miss bank (treasury s company) start (λ k. far (sym k))))))
+            (first_only _ money (cash_got fs float bank money 0 (hit bank to money (sym is_bank)) (ended _ 0 (miss bank (treasury s company) start (λ k. far (sym k))))))
             (last_only _ start (cash_gave fs float bank 0 start (miss bank seat money (λ k. no_bank (sym k))) (ended _ start (hit bank bank start refl))));
         company_gets =
             more b law s ok c e (cash_hand (treasury s company)) tt 0 start
-            (last_only _ start (cash_got fs float (treasury s company) 0 start (miss (treasury s company) to money (λ k. far (k ∙ is-bank))) (ended _ start (hit (treasury s company) (treasury s company) start refl))))
+            (last_only _ start (cash_got fs float (treasury s company) 0 start (miss (treasury s company) to money (λ k. far (k ∙ is_bank))) (ended _ start (hit (treasury s company) (treasury s company) start refl))))
             (cash_gave fs float (treasury s company) 0 0 (miss (treasury s company) seat money (λ k. no_company (sym k))) (ended _ 0 (miss (treasury s company) bank start far)));
         other_cash =
             λ place ns nb nt.
             same b law s ok c e (cash_hand place) tt 0
-            (cash_got fs float place 0 0 (miss place to money (λ k. nb (k ∙ is-bank))) (ended _ 0 (miss place (treasury s company) start nt)))
+            (cash_got fs float place 0 0 (miss place to money (λ k. nb (k ∙ is_bank))) (ended _ 0 (miss place (treasury s company) start nt)))
             (cash_gave fs float place 0 0 (miss place seat money ns) (ended _ 0 (miss place bank start nb)));
         other_papers =
             λ other low high ne place tag.

@@ -3,7 +3,7 @@ use Rattle.std.proofs.Common.{◌≡◌, ℕ, ◌+◌, ◌*◌, ◌≤◌, Bool,
 use Rattle.std.proofs.lemmas.Bool.{ne_eqb}
 use Rattle.rulebook.specs.Book.{Book}
 use Rattle.rulebook.specs.Lawful.{Lawful}
-use Rattle.ledger.specs.Answers.{on-stock-turn}
+use Rattle.ledger.specs.Answers.{on_stock_turn}
 use Rattle.ledger.specs.Certificates.{lowest_ordinary}
 use Rattle.ledger.specs.Crossings.{Crossing, pays, hands, all_crossed}
 use Rattle.ledger.specs.Holdings.{bank, pool, seat_papers, papers_at, largest_other, price_of}
@@ -78,7 +78,7 @@ module _ (b : Book) (law : Lawful b) (s : Books) (ok : Standing b s) (card seat 
       let money = tenths * price_of b s company in
       let lead = another_leads s seat company tenths in
       let big = largest_other s company seat in
-      let q = stock_turn s card seat (both_granted (on-stock-turn s card seat) _ e).0 in
+      let q = stock_turn s card seat (both_granted (on_stock_turn s card seat) _ e).0 in
       let no_bank : seat ≢ bank = λ k. not_nought seat q.0 k in
       record {
         seller_gets =

@@ -75,10 +75,10 @@ module _ (b : Book) (lawful : Lawful b) (s : Books) (ok : Sound b s) (led : Led 
     settled (Some old) e p = by_test (not (eqb old seat) && ltb (seat_tenths with_it company old) (seat_tenths with_it company seat)) refl
       where
         by_test : (test : Bool) → (not (eqb old seat) && ltb (seat_tenths with_it company old) (seat_tenths with_it company seat)) ≡ test → tens (all_crossed with_it (cond test (exchange with_it company seat old) [])) company p ≡ tens with_it company p
-        by_test true yes-test =
+        by_test true yes_test =
             let d = director_holds with_it company old e in
             let holds = eqb-true (heads with_it company (old + 1)) 1 d.0 in
-            let parts = and_parts (not (eqb old seat)) (ltb (seat_tenths with_it company old) (seat_tenths with_it company seat)) yes-test in
+            let parts = and_parts (not (eqb old seat)) (ltb (seat_tenths with_it company old) (seat_tenths with_it company seat)) yes_test in
             let apart : seat ≢ old = λ same. eqb-false old seat (not-true _ parts.0) (sym same) in
             let more = ltb-true (tens with_it company (old + 1)) (tens with_it company (seat + 1)) parts.1 in
             let has = two_below (tens with_it company (old + 1)) (tens with_it company (seat + 1)) (at_least_two (papers_at with_it company (old + 1)).certificates holds) more in
@@ -135,10 +135,10 @@ module _ (b : Book) (lawful : Lawful b) (s : Books) (ok : Sound b s) (led : Led 
     -- a director who keeps the lead keeps two tenths
     all_ordinary : another_leads s seat company tenths ≡ false → (d : Bool) → is_director s company seat ≡ d → min tenths (sized (λ _. 1) 1 8 (papers_at s company (seat_papers seat)).certificates) ≡ tenths
     all_ordinary e true own =
-        let keeps-lead = ⊎_elim (λ f. absurd (true≢false (sym own ∙ f))) (λ f. f) (and_cases (is_director s company seat) _ e) in
+        let keeps_lead = ⊎_elim (λ f. absurd (true≢false (sym own ∙ f))) (λ f. f) (and_cases (is_director s company seat) _ e) in
         let unneeded = ⊎_elim (λ f. absurd (true≢false (sym own ∙ f))) (λ f. f) (and_cases (is_director s company seat) _ may.unneeded) in
         gave_these tenths (tens s company (seat + 1)) (heads s company (seat + 1)) (sized (λ _. 1) 1 8 (papers_at s company (seat + 1)).certificates) (tenths_ordinary (papers_at s company (seat + 1)).certificates)
-        (eqb-true (heads s company (seat + 1)) 1 own) (two_kept (keeps s seat company tenths) (seat_tenths s company new) keeps-lead unneeded)
+        (eqb-true (heads s company (seat + 1)) 1 own) (two_kept (keeps s seat company tenths) (seat_tenths s company new) keeps_lead unneeded)
     all_ordinary e false not_own =
         let none = no_more_than_one (heads s company (seat + 1)) (heads s company 0) (one_place b s ok company (seat + 1) 0 (λ k. omega arith)) (eqb-false (heads s company (seat + 1)) 1 not_own) in
         gave_all tenths (tens s company (seat + 1)) (heads s company (seat + 1)) (sized (λ _. 1) 1 8 (papers_at s company (seat + 1)).certificates) (tenths_ordinary (papers_at s company (seat + 1)).certificates) none may.held

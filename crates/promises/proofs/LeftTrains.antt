@@ -5,7 +5,7 @@ use Rattle.std.proofs.lemmas.Int.{ints}
 use Rattle.std.proofs.lemmas.Bool.{and_parts}
 use Rattle.rulebook.specs.Book.{Book}
 use Rattle.rulebook.specs.Lawful.{Lawful, Between}
-use Rattle.ledger.specs.Answers.{on-operating-turn}
+use Rattle.ledger.specs.Answers.{on_operating_turn}
 use Rattle.ledger.specs.Crossings.{Crossing, pays, moves}
 use Rattle.ledger.specs.Holdings.{bank, treasury, stack, marks_at, trains_held, director, has_train}
 use Rattle.ledger.specs.Lives.{answer, crossings_of, after}
@@ -54,7 +54,7 @@ module _ (b : Book) (law : Lawful b) (s : Books) (ok : Standing b s) (card compa
   paid = pays (treasury s company) bank (b.train_price kind) ∷ (moves stack company (record { kind = kind; count = 1 }) ∷ [])
 
   there : Between 1 b.companies company
-  there = company_on_turn b s ok card company (both_granted (on-operating-turn s card company) _ e).0
+  there = company_on_turn b s ok card company (both_granted (on_operating_turn s card company) _ e).0
 
   far : treasury s company ≢ bank
   far = treasury_no_bank b law s ok company
@@ -66,7 +66,7 @@ module _ (b : Book) (law : Lawful b) (s : Books) (ok : Standing b s) (card compa
     gave : (h : HandOf) (tag x y : ℕ) → gifts xs h tag ≡ x → gifts paid h tag ≡ y → gifts (crossings_of b s (Train card company kind)) h tag ≡ x + y
     gave h tag x y p q = ap (λ zs. gifts (zs ++ paid) h tag) first ∙ (gifts_append xs paid h tag ∙ sum_of (gifts xs h tag) (gifts paid h tag) x y p q)
 
-    module _ (none-come : (place tag : ℕ) → receipts xs (train_hand place) tag ≡ 0) (none-go : (place tag : ℕ) → gifts xs (train_hand place) tag ≡ 0) where
+    module _ (none_come : (place tag : ℕ) → receipts xs (train_hand place) tag ≡ 0) (none_go : (place tag : ℕ) → gifts xs (train_hand place) tag ≡ 0) where
       one_train : TrainMoves s (after b s (Train card company kind)) company kind
       one_train =
           let c = Train card company kind in
@@ -76,25 +76,25 @@ module _ (b : Book) (law : Lawful b) (s : Books) (ok : Standing b s) (card compa
             company_gets =
                 more_count (trains_held s company kind) (trains_held t company kind) 1
                 (more b law s ok c e (train_hand company) tt kind 1
-                (got (train_hand company) kind 0 1 (none-come company kind) (after_none _ 1 (hit company company (cond (eqb kind kind) 1 0) refl ∙ hit kind kind 1 refl)))
-                (gave (train_hand company) kind 0 0 (none-go company kind) (after_none _ 0 (miss company stack (cond (eqb kind kind) 1 0) apart))));
+                (got (train_hand company) kind 0 1 (none_come company kind) (after_none _ 1 (hit company company (cond (eqb kind kind) 1 0) refl ∙ hit kind kind 1 refl)))
+                (gave (train_hand company) kind 0 0 (none_go company kind) (after_none _ 0 (miss company stack (cond (eqb kind kind) 1 0) apart))));
             stack_gives =
                 less_count (trains_held s stack kind) (trains_held t stack kind) 1
                 (less b law s ok c e (train_hand stack) tt kind 1
-                (got (train_hand stack) kind 0 0 (none-come stack kind) (after_none _ 0 (miss stack company (cond (eqb kind kind) 1 0) (λ k. apart (sym k)))))
-                (gave (train_hand stack) kind 0 1 (none-go stack kind) (after_none _ 1 (hit stack stack (cond (eqb kind kind) 1 0) refl ∙ hit kind kind 1 refl))));
+                (got (train_hand stack) kind 0 0 (none_come stack kind) (after_none _ 0 (miss stack company (cond (eqb kind kind) 1 0) (λ k. apart (sym k)))))
+                (gave (train_hand stack) kind 0 1 (none_go stack kind) (after_none _ 1 (hit stack stack (cond (eqb kind kind) 1 0) refl ∙ hit kind kind 1 refl))));
             other_kinds =
                 λ place other ne.
                 same_count (trains_held s place other) (trains_held t place other)
                 (same b law s ok c e (train_hand place) tt other
-                (got (train_hand place) other 0 0 (none-come place other) (after_none _ 0 (either_way (eqb place company) (cond (eqb other kind) 1 0) (miss other kind 1 ne))))
-                (gave (train_hand place) other 0 0 (none-go place other) (after_none _ 0 (either_way (eqb place stack) (cond (eqb other kind) 1 0) (miss other kind 1 ne)))));
+                (got (train_hand place) other 0 0 (none_come place other) (after_none _ 0 (either_way (eqb place company) (cond (eqb other kind) 1 0) (miss other kind 1 ne))))
+                (gave (train_hand place) other 0 0 (none_go place other) (after_none _ 0 (either_way (eqb place stack) (cond (eqb other kind) 1 0) (miss other kind 1 ne)))));
             other_hands =
                 λ place other nc ns.
                 same_count (trains_held s place other) (trains_held t place other)
                 (same b law s ok c e (train_hand place) tt other
-                (got (train_hand place) other 0 0 (none-come place other) (after_none _ 0 (miss place company (cond (eqb other kind) 1 0) nc)))
-                (gave (train_hand place) other 0 0 (none-go place other) (after_none _ 0 (miss place stack (cond (eqb other kind) 1 0) ns))));
+                (got (train_hand place) other 0 0 (none_come place other) (after_none _ 0 (miss place company (cond (eqb other kind) 1 0) nc)))
+                (gave (train_hand place) other 0 0 (none_go place other) (after_none _ 0 (miss place stack (cond (eqb other kind) 1 0) ns))));
           }
         where
           not_nought : (n : ℕ) → 1 ≤ n → n ≡ 0 → ⊥

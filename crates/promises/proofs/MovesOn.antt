@@ -10,7 +10,7 @@ use Rattle.kinds.specs.Floor.{floor_marks}
 use Rattle.rulebook.specs.Book.{Book}
 use Rattle.rulebook.specs.Lawful.{Lawful, Between}
 use Rattle.rulebook.specs.declared.split.Split.{Split}
-use Rattle.ledger.specs.Answers.{Answer, granted, refused-if, and_then, by-carry, odd, stock-card, operating-card, round-over, same-company, on-operating-turn, below_floor}
+use Rattle.ledger.specs.Answers.{Answer, granted, refused_if, and_then, by_carry, odd, stock_card, operating_card, round_over, same_company, on_operating_turn, below_floor}
 use Rattle.ledger.specs.Crossings.{pays, crossing_outcome}
 use Rattle.ledger.specs.Holdings.{bank, treasury, no_cash, marks_at, is_seat, director, lowest_kind, has_train}
 use Rattle.ledger.specs.Opening.{opened}
@@ -30,8 +30,8 @@ use Rattle.promises.proofs.TurnSeats.{AllSeated, life_seated, opening_seated}
 use Rattle.promises.proofs.Whole.{life_stands}
 
 -- a test that fails hands on to what follows, and so does a part that grants
-on : (t : Bool) (why : TableRefusal) (n : Answer) → t ≡ false → refused-if t why n ≡ n
-on t why n e = ap (λ x. refused-if x why n) e
+on : (t : Bool) (why : TableRefusal) (n : Answer) → t ≡ false → refused_if t why n ≡ n
+on t why n e = ap (λ x. refused_if x why n) e
 
 then_on : (a n : Answer) → a ≡ Ok tt → and_then a n ≡ n
 then_on a n e = ap (λ x. and_then x n) e
@@ -57,37 +57,37 @@ no_dividends s company zero seat = refl
 no_dividends s company (suc n) seat = let r = no_dividends s company n (suc seat) in omega (arith, r)
 
 module _ (s : Books) where
-  own_stock_card : odd s.round ≡ true → stock-card s s.round ≡ true
+  own_stock_card : odd s.round ≡ true → stock_card s s.round ≡ true
   own_stock_card e = and_from _ _ (eq-eqb s.round s.round refl) e
 
-  own_operating_card : odd s.round ≡ false → operating-card s s.round ≡ true
+  own_operating_card : odd s.round ≡ false → operating_card s s.round ≡ true
   own_operating_card e = and_from _ _ (eq-eqb s.round s.round refl) (not_from_false _ e)
 
-  turn_ends : AllSeated s → odd s.round ≡ true → round-over s ≡ false → end_answer s s.round s.stock.turn ≡ Ok tt
+  turn_ends : AllSeated s → odd s.round ≡ true → round_over s ≡ false → end_answer s s.round s.stock.turn ≡ Ok tt
   turn_ends ok stock going =
       let turn = s.stock.turn in
       let p = ok.turn_seat in
-      on (not (stock-card s s.round)) WrongCard _ (not_from_true _ (own_stock_card stock))
-      ∙ on (round-over s) RoundOver _ going
+      on (not (stock_card s s.round)) WrongCard _ (not_from_true _ (own_stock_card stock))
+      ∙ on (round_over s) RoundOver _ going
       ∙ on (not (is_seat s turn)) NoSuchSeat _ (not_from_true _ (and_from _ _ (le-leb 1 turn p.0) (le-leb turn s.players p.1)))
       ∙ on (not (eqb turn turn)) NotOnTurn granted (not_from_true _ (eq-eqb turn turn refl))
 
-  closes : odd s.round ≡ true → round-over s ≡ true → s.round ≢ 9999 → close_answer s s.round ≡ Ok tt
+  closes : odd s.round ≡ true → round_over s ≡ true → s.round ≢ 9999 → close_answer s s.round ≡ Ok tt
   closes stock over more =
-      on (not (stock-card s s.round)) WrongCard _ (not_from_true _ (own_stock_card stock))
-      ∙ on (not (round-over s)) RoundNotOver _ (not_from_true _ over)
+      on (not (stock_card s s.round)) WrongCard _ (not_from_true _ (own_stock_card stock))
+      ∙ on (not (round_over s)) RoundNotOver _ (not_from_true _ over)
       ∙ on (eqb s.round 9999) LastRound granted (ne_eqb s.round 9999 more)
 
   reopens : odd s.round ≡ false → s.operating.company ≡ None → reopen_answer s s.round ≡ Ok tt
   reopens operating nobody =
-      on (not (operating-card s s.round)) WrongCard _ (not_from_true _ (own_operating_card operating))
+      on (not (operating_card s s.round)) WrongCard _ (not_from_true _ (own_operating_card operating))
       ∙ on (not (nobody_on_turn s.operating.company)) CompanyOnTurn granted (ap (λ o. not (nobody_on_turn o)) nobody)
 
-  company_on_turn : odd s.round ≡ false → (company : ℕ) → s.operating.company ≡ Some company → on-operating-turn s s.round company ≡ Ok tt
+  company_on_turn : odd s.round ≡ false → (company : ℕ) → s.operating.company ≡ Some company → on_operating_turn s s.round company ≡ Ok tt
   company_on_turn operating company turn =
-      on (not (operating-card s s.round)) WrongCard _ (not_from_true _ (own_operating_card operating))
-      ∙ on (not (same-company s.operating.company company)) CompanyNotOnTurn granted
-      (not_from_true _ (ap (λ o. same-company o company) turn ∙ eq-eqb company company refl))
+      on (not (operating_card s s.round)) WrongCard _ (not_from_true _ (own_operating_card operating))
+      ∙ on (not (same_company s.operating.company company)) CompanyNotOnTurn granted
+      (not_from_true _ (ap (λ o. same_company o company) turn ∙ eq-eqb company company refl))
 
 module _ (b : Book) (law : Lawful b) (s : Books) (ok : Standing b s) (operating : odd s.round ≡ false) (company : ℕ) (turn : s.operating.company ≡ Some company) where
   few : b.bank ≤ 50000
@@ -107,7 +107,7 @@ module _ (b : Book) (law : Lawful b) (s : Books) (ok : Standing b s) (operating 
 
   pays_out : s.operating.paid ≡ false → payout_answer b s s.round company 0 0 ≡ Ok tt
   pays_out unpaid =
-      then_on (on-operating-turn s s.round company) _ (company_on_turn s operating company turn)
+      then_on (on_operating_turn s s.round company) _ (company_on_turn s operating company turn)
       ∙ on s.operating.paid AlreadyPaidOut _ unpaid
       ∙ ap (payout_granted s company 0) (law.split_keeps 0 refl)
       ∙ on (below_floor (marks_at s bank -ℤ pos (payout_sum s company nothing))) BankFloor granted pays_nothing
@@ -146,23 +146,23 @@ module _ (b : Book) (law : Lawful b) (s : Books) (ok : Standing b s) (operating 
     abbrev owes : Bool
     owes = not (has_train s company) && can_reach b s company (lowest_kind s)
 
-    done_by : done_answer b s s.round company ≡ refused-if owes TrainOwed granted
+    done_by : done_answer b s s.round company ≡ refused_if owes TrainOwed granted
     done_by =
-        then_on (on-operating-turn s s.round company) _ (company_on_turn s operating company turn)
+        then_on (on_operating_turn s s.round company) _ (company_on_turn s operating company turn)
         ∙ on (not s.operating.paid) NotPaidOut _ (not_from_true _ paid)
 
     buys : not (has_train s company) ≡ true → (kind : ℕ) → lowest_kind s ≡ Some kind → can_reach b s company (Some kind) ≡ true → train_answer b s s.round company kind ≡ Ok tt
     buys trainless kind lowest reach =
-        then_on (on-operating-turn s s.round company) _ (company_on_turn s operating company turn)
+        then_on (on_operating_turn s s.round company) _ (company_on_turn s operating company turn)
         ∙ on (not s.operating.paid) NotPaidOut _ (not_from_true _ paid)
         ∙ on (not (same_kind (lowest_kind s) kind)) NotLowestKind _ (not_from_true _ (ap (λ o. same_kind o kind) lowest ∙ eq-eqb kind kind refl))
-        ∙ ap by-carry (first_granted trainless (b.train_price kind) (director s company) refl (le_from (pos (b.train_price kind)) (marks_at s (treasury s company) +ℤ director_marks s (director s company)) reach))
+        ∙ ap by_carry (first_granted trainless (b.train_price kind) (director s company) refl (le_from (pos (b.train_price kind)) (marks_at s (treasury s company) +ℤ director_marks s (director s company)) reach))
 
     due : owes ≡ true → (o : Option ℕ) → lowest_kind s ≡ o → can_reach b s company o ≡ true → BuysLowest b s company
     due owing None lowest reach = absurd (false≢true reach)
     due owing (Some kind) lowest reach =
         record {
-          owed = done_by ∙ ap (λ t. refused-if t TrainOwed granted) owing;
+          owed = done_by ∙ ap (λ t. refused_if t TrainOwed granted) owing;
           kind = kind;
           lowest = lowest;
           can_buy = buys (and_parts (not (has_train s company)) (can_reach b s company (lowest_kind s)) owing).0 kind lowest reach;

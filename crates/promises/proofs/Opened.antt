@@ -41,10 +41,10 @@ floors_none : (n : ℕ) (h : Cash) → h.floor ≡ Zero → floor_total (replica
 floors_none zero h e = refl
 floors_none (suc n) h e = let r = floors_none n h e in let f = ap floor_marks e in omega (arith, ints)
 
-module _ (total-marks players each : ℕ) (six : players ≤ 6) (small : total-marks ≤ 50000) (fits : players * each ≤ total-marks) (low : each ≤ 50000) where
-  pub opening_row : BankRow total-marks (opening_cash total-marks players each)
+module _ (total_marks players each : ℕ) (six : players ≤ 6) (small : total_marks ≤ 50000) (fits : players * each ≤ total_marks) (low : each ≤ 50000) where
+  pub opening_row : BankRow total_marks (opening_cash total_marks players each)
   opening_row =
-      let first = cash_made Overdraft (total-marks - players * each) (omega arith) in
+      let first = cash_made Overdraft (total_marks - players * each) (omega arith) in
       let seat = cash_made Zero each (omega arith) in
       let a = total_append cash_tallies (replicate players (cash_of Zero each)) (replicate (14 - players) no_cash) 0 in
       let s = total_replicate cash_tallies players (cash_of Zero each) 0 each seat.0 in
@@ -57,12 +57,12 @@ module _ (total-marks players each : ℕ) (six : players ≤ 6) (small : total-m
       let lz = length-replicate (14 - players) no_cash in
       record {
         wide = omega (arith, l, ls, lz);
-        sum = whole (cash_of Overdraft (total-marks - players * each)).marks _ _ _ (players * each) ((14 - players) * 0) first.0 a s z (omega arith) fits;
-        floors = bottom (floor_marks (cash_of Overdraft (total-marks - players * each)).floor) _ _ _ (ap floor_marks first.1) fa fs fz;
+        sum = whole (cash_of Overdraft (total_marks - players * each)).marks _ _ _ (players * each) ((14 - players) * 0) first.0 a s z (omega arith) fits;
+        floors = bottom (floor_marks (cash_of Overdraft (total_marks - players * each)).floor) _ _ _ (ap floor_marks first.1) fa fs fz;
         first = first.1;
       }
     where
-      whole : (m x y w : ℤ) (k j : ℕ) → m ≡ pos (total-marks - k) → x ≡ y +ℤ w → y ≡ pos k → w ≡ pos j → j ≡ 0 → k ≤ total-marks → m +ℤ x ≡ pos total-marks
+      whole : (m x y w : ℤ) (k j : ℕ) → m ≡ pos (total_marks - k) → x ≡ y +ℤ w → y ≡ pos k → w ≡ pos j → j ≡ 0 → k ≤ total_marks → m +ℤ x ≡ pos total_marks
       whole m x y w k j p q r u v le = omega (arith, ints)
 
       bottom : (f x y w : ℤ) → f ≡ negsuc 19999 → x ≡ y +ℤ w → y ≡ pos 0 → w ≡ pos 0 → f +ℤ x ≡ negsuc 19999

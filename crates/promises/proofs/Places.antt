@@ -4,7 +4,7 @@ use Rattle.faults.specs.declared.table.TableRefusal.TheVariants.{NoSuchCompany}
 use Rattle.rulebook.specs.Book.{Book}
 use Rattle.rulebook.specs.Lawful.{Lawful, Between}
 use Rattle.rulebook.specs.declared.split.Split.{Split}
-use Rattle.ledger.specs.Answers.{on-stock-turn}
+use Rattle.ledger.specs.Answers.{on_stock_turn}
 use Rattle.ledger.specs.Crossings.{Crossing, pays, all_crossed}
 use Rattle.ledger.specs.Holdings.{bank, treasury, seat_tenths, largest_other, is_company, director}
 use Rattle.ledger.specs.Lives.{answer, crossings_of}
@@ -47,14 +47,14 @@ module _ (b : Book) (law : Lawful b) (s : Books) where
 
   pub call_within : (c : Call) → answer b s c ≡ Ok tt → AllWithin (crossings_of b s c)
   call_within (Sell card seat company tenths) e =
-      let p = both_granted (on-stock-turn s card seat) _ e in
+      let p = both_granted (on_stock_turn s card seat) _ e in
       let a = test_passed (not (is_company b company)) NoSuchCompany _ p.1 in
       let c = in_range company (company_there b company a.0) in
       within_append (sell_exchange s seat company tenths) _
       (within_either (another_leads s seat company tenths) (exchange s company (largest_other s company seat) seat) [] (c, (c, tt)) tt)
       (tt, (c, tt))
   call_within (Buy card seat company source space) e =
-      let p = both_granted (on-stock-turn s card seat) _ e in
+      let p = both_granted (on_stock_turn s card seat) _ e in
       let m = both_granted (may_buy b s seat company source space) _ p.1 in
       let a = test_passed (not (is_company b company)) NoSuchCompany _ m.0 in
       let c = in_range company (company_there b company a.0) in

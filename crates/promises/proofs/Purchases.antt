@@ -49,9 +49,9 @@ module _ (b : Book) (few : b.bank ≤ 50000) (s : Books) (ok : Sound b s) (seat 
   exchanged (Some old) e = by_test (not (eqb old seat) && ltb (seat_tenths t company old) (seat_tenths t company seat)) refl
     where
       by_test : (test : Bool) → (not (eqb old seat) && ltb (seat_tenths t company old) (seat_tenths t company seat)) ≡ test → Carriable t (cond test (exchange t company seat old) [])
-      by_test true yes-test =
+      by_test true yes_test =
           let d = director_holds t company old e in
-          let apart = eqb-false old seat (not-true _ (and_parts (not (eqb old seat)) _ yes-test).0) in
+          let apart = eqb-false old seat (not-true _ (and_parts (not (eqb old seat)) _ yes_test).0) in
           exchange_granted b few t sound company seat old c1 c8 (λ same. apart (sym same)) s1 sn d.1 d.2 d.0
       by_test false no_test = tt
 
@@ -71,7 +71,7 @@ module _ (b : Book) (few : b.bank ≤ 50000) (s : Books) (ok : Sound b s) (seat 
       let p = ok.seats in
       let to = bank_paid b s company source e in
       let short : below_floor (marks_at s bank +ℤ pos (cost b s company source space) -ℤ pos (float_money b s company source space)) ≡ false =
-      ⊎_elim (λ no-float. absurd (true≢false (sym e ∙ no-float))) (λ f. f) (and_cases (floats b s company source) _ enough)
+      ⊎_elim (λ no_float. absurd (true≢false (sym e ∙ no_float))) (λ f. f) (and_cases (floats b s company source) _ enough)
       in
       let left = not_below (marks_at s bank +ℤ pos (cost b s company source space) -ℤ pos (float_money b s company source space)) short in
       let to_bank : (crossing_outcome s (pays seat bank (cost b s company source space))).0 ≡ Ok tt = subst (λ (n : ℕ). (crossing_outcome s (pays seat n (cost b s company source space))).0 ≡ Ok tt) to paid in

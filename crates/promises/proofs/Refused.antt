@@ -7,7 +7,7 @@ use Rattle.hands.specs.declared.fault.CarryRefusal.TheVariants.{OutsideRow, Same
 use Rattle.faults.specs.Numbers.{table_number}
 use Rattle.faults.specs.declared.table.TableRefusal.{TableRefusal}
 use Rattle.faults.specs.declared.table.TableRefusal.TheVariants.{WrongCard, NoSuchSeat, NotOnTurn, RoundOver, CompanyNotOnTurn, Carry}
-use Rattle.ledger.specs.Answers.{Answer, granted, refused-if, and_then, by-carry, stock-card, operating-card, round-over, same-company, on-stock-turn, on-operating-turn}
+use Rattle.ledger.specs.Answers.{Answer, granted, refused_if, and_then, by_carry, stock_card, operating_card, round_over, same_company, on_stock_turn, on_operating_turn}
 use Rattle.ledger.specs.Holdings.{is_seat}
 use Rattle.ledger.specs.declared.books.Books.{Books}
 
@@ -37,22 +37,22 @@ module _ (P : CarryFault → Type 0) where
   either_refused (Ok u) n p q = q refl
   either_refused (Err why) n p q = p
 
-  pub test_refused : (t : Bool) (why : TableRefusal) (n : Answer) → 5 ≤ table_number why → (t ≡ false → Faults P n) → Faults P (refused-if t why n)
+  pub test_refused : (t : Bool) (why : TableRefusal) (n : Answer) → 5 ≤ table_number why → (t ≡ false → Faults P n) → Faults P (refused_if t why n)
   test_refused true why n own q = own_refusal why own
   test_refused false why n own q = q refl
 
-  pub carry_refused : (r : Result (Unit {0}) CarryFault) → ((fault : CarryFault) → r ≡ Err fault → P fault) → Faults P (by-carry r)
+  pub carry_refused : (r : Result (Unit {0}) CarryFault) → ((fault : CarryFault) → r ≡ Err fault → P fault) → Faults P (by_carry r)
   carry_refused (Ok u) p fault e = none_granted fault e
   carry_refused (Err why) p fault e = p fault (cc)
 
-  pub stock_turn_refused : (s : Books) (card seat : ℕ) → Faults P (on-stock-turn s card seat)
+  pub stock_turn_refused : (s : Books) (card seat : ℕ) → Faults P (on_stock_turn s card seat)
   stock_turn_refused s card seat =
-      test_refused (not (stock-card s card)) WrongCard _ (lit≤ tt) (λ _.
-      test_refused (round-over s) RoundOver _ (lit≤ tt) (λ _.
+      test_refused (not (stock_card s card)) WrongCard _ (lit≤ tt) (λ _.
+      test_refused (round_over s) RoundOver _ (lit≤ tt) (λ _.
       test_refused (not (is_seat s seat)) NoSuchSeat _ (lit≤ tt) (λ _.
       test_refused (not (eqb seat s.stock.turn)) NotOnTurn granted (lit≤ tt) (λ _. none_granted))))
 
-  pub operating_turn_refused : (s : Books) (card company : ℕ) → Faults P (on-operating-turn s card company)
+  pub operating_turn_refused : (s : Books) (card company : ℕ) → Faults P (on_operating_turn s card company)
   operating_turn_refused s card company =
-      test_refused (not (operating-card s card)) WrongCard _ (lit≤ tt) (λ _.
-      test_refused (not (same-company s.operating.company company)) CompanyNotOnTurn granted (lit≤ tt) (λ _. none_granted))
+      test_refused (not (operating_card s card)) WrongCard _ (lit≤ tt) (λ _.
+      test_refused (not (same_company s.operating.company company)) CompanyNotOnTurn granted (lit≤ tt) (λ _. none_granted))

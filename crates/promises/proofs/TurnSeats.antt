@@ -2,7 +2,7 @@
 use Rattle.std.proofs.Common.{◌≡◌, ℕ, ◌≤◌, List, [], ◌∷◌, Some, None, Ok, Err, Option, sym, refl, ◌∙◌, subst, arith}
 use Rattle.rulebook.specs.Book.{Book}
 use Rattle.rulebook.specs.Lawful.{Between}
-use Rattle.ledger.specs.Answers.{Answer, on-stock-turn}
+use Rattle.ledger.specs.Answers.{Answer, on_stock_turn}
 use Rattle.ledger.specs.Crossings.{Crossing, pays, hands, moves, crossed, all_crossed}
 use Rattle.ledger.specs.Lives.{answer, granted_after, if_granted, after}
 use Rattle.ledger.specs.Opening.{opened}
@@ -60,7 +60,7 @@ module _ (b : Book) (s : Books) (ok : AllSeated s) where
       record {
         turn_seat = there.turn_seat;
         first_seat = there.first_seat;
-        last_seat = still_seat xs seat (stock_turn s card seat (both_granted (on-stock-turn s card seat) _ e).0);
+        last_seat = still_seat xs seat (stock_turn s card seat (both_granted (on_stock_turn s card seat) _ e).0);
       }
   granted_seated (Buy card seat company source space) e =
       let xs = buy_crossings b s seat company source space in
@@ -68,7 +68,7 @@ module _ (b : Book) (s : Books) (ok : AllSeated s) where
       record {
         turn_seat = there.turn_seat;
         first_seat = there.first_seat;
-        last_seat = still_seat xs seat (stock_turn s card seat (both_granted (on-stock-turn s card seat) _ e).0);
+        last_seat = still_seat xs seat (stock_turn s card seat (both_granted (on_stock_turn s card seat) _ e).0);
       }
   granted_seated (End card seat) e =
       let p = stock_turn s card seat e in

@@ -3,7 +3,7 @@ use Rattle.std.specs.Prelude.{◌≡◌, ℕ, true, false, ◌≢◌, ◌⊎◌,
 use Rattle.faults.specs.declared.table.TableRefusal.TheVariants.{TrainOwed}
 use Rattle.rulebook.specs.Book.{Book}
 use Rattle.rulebook.specs.Lawful.{Lawful}
-use Rattle.ledger.specs.Answers.{odd, round-over}
+use Rattle.ledger.specs.Answers.{odd, round_over}
 use Rattle.ledger.specs.Holdings.{lowest_kind}
 use Rattle.ledger.specs.Opening.{opened}
 use Rattle.ledger.specs.Operating.{payout_answer, train_answer, done_answer, reopen_answer}
@@ -21,8 +21,8 @@ pub record BuysLowest (b : Book) (s : Books) (company : ℕ) : Type 0 where
 
 -- odd rounds are stock rounds, even ones operating rounds; each call is made with the card of the round
 pub record MovesOn (b : Book) (s : Books) : Type 0 where
-  pub turn_can_end : odd s.round ≡ true → round-over s ≡ false → end_answer s s.round s.stock.turn ≡ Ok tt
-  pub round_can_close : odd s.round ≡ true → round-over s ≡ true → s.round ≢ 9999 → close_answer s s.round ≡ Ok tt
+  pub turn_can_end : odd s.round ≡ true → round_over s ≡ false → end_answer s s.round s.stock.turn ≡ Ok tt
+  pub round_can_close : odd s.round ≡ true → round_over s ≡ true → s.round ≢ 9999 → close_answer s s.round ≡ Ok tt
   -- revenue 0 in mode 0
   pub can_pay_out : odd s.round ≡ false → (company : ℕ) → s.operating.company ≡ Some company → s.operating.paid ≡ false → payout_answer b s s.round company 0 0 ≡ Ok tt
   pub can_buy_or_be_done : odd s.round ≡ false → (company : ℕ) → s.operating.company ≡ Some company → s.operating.paid ≡ true

@@ -6,7 +6,7 @@ use Rattle.kinds.specs.Papers.{papers_tallies}
 use Rattle.kinds.specs.Trains.{trains_tallies}
 use Rattle.rulebook.specs.Book.{Book}
 use Rattle.rulebook.specs.Lawful.{Lawful, Between}
-use Rattle.ledger.specs.Holdings.{company_of, seat_papers, seat_tenths, holds_director, director, certificates_held, opened as has-opened}
+use Rattle.ledger.specs.Holdings.{company_of, seat_papers, seat_tenths, holds_director, director, certificates_held, opened as has_opened}
 use Rattle.ledger.specs.Opening.{opened}
 use Rattle.ledger.specs.Stock.{buy_answer, buy_after}
 use Rattle.ledger.specs.declared.books.Books.{Books}
@@ -28,7 +28,7 @@ pub record DirectorOf (s : Books) (company : ℕ) : Type 0 where
   pub alone : (other : ℕ) → 1 ≤ other → other ≤ s.players → holds_director s company (seat_papers other) ≡ true → other ≡ seat
 
 abbrev pub Directed : Book → Books → Type 0
-Directed b s = (company : ℕ) → Between 1 b.companies company → has-opened s company ≡ true → DirectorOf s company
+Directed b s = (company : ℕ) → Between 1 b.companies company → has_opened s company ≡ true → DirectorOf s company
 
 -- no granted purchase leaves its buyer above a limit
 abbrev pub WithinLimits : Book → Books → Type 0

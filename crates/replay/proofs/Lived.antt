@@ -89,7 +89,7 @@ module _ (place : ℕ) (rest : List (ℕ × Entry)) (ending : Option FileFault) 
   first_stands : (e : Entry) → Stands (from_first place rest ending e).game
   first_stands (opens number players) = book_stands (numbered number) players
   first_stands (sells seat company tenths) = tt
-  first_stands (buys seat company source par-space) = tt
+  first_stands (buys seat company source par_space) = tt
   first_stands (ends seat) = tt
   first_stands closes = tt
   first_stands (bills company amount) = tt

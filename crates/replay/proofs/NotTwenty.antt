@@ -13,7 +13,7 @@ use Rattle.faults.specs.declared.table.TableRefusal.TheVariants.{WrongCard, NoSu
 use Rattle.rulebook.specs.Book.{Book}
 use Rattle.rulebook.specs.declared.split.Split.{Split}
 use Rattle.entries.specs.Entry.{Entry, opens, sells, buys, ends, closes, bills, pays_out, buys_train, is_done, reopens}
-use Rattle.ledger.specs.Answers.{Answer, granted, refused-if, and_then, by-carry, odd, on-stock-turn, on-operating-turn}
+use Rattle.ledger.specs.Answers.{Answer, granted, refused_if, and_then, by_carry, odd, on_stock_turn, on_operating_turn}
 use Rattle.ledger.specs.Lives.{answer}
 use Rattle.ledger.specs.Operating.{payout_granted}
 use Rattle.ledger.specs.Stock.{may_buy}
@@ -33,7 +33,7 @@ is_granted = record { number = λ why e. let z : ◌≡◌ {A = ℕ} 0 1 = cc in
 is_refused : (why : TableRefusal) → table_number why ≢ 20 → Other (Err why)
 is_refused why ne = record { number = λ other e. let same : why ≡ other = cc in subst (λ (w : TableRefusal). table_number w ≢ 20) same ne }
 
-other_if : (t : Bool) (why : TableRefusal) (a : Answer) → table_number why ≢ 20 → Other a → Other (refused-if t why a)
+other_if : (t : Bool) (why : TableRefusal) (a : Answer) → table_number why ≢ 20 → Other a → Other (refused_if t why a)
 other_if true why a here there = is_refused why here
 other_if false why a here there = there
 
@@ -47,7 +47,7 @@ carry_other SameHand = omega arith
 carry_other CannotGive = omega arith
 carry_other CannotTake = omega arith
 
-other_carry : (r : Result (Unit {0}) CarryFault) → Other (by-carry r)
+other_carry : (r : Result (Unit {0}) CarryFault) → Other (by_carry r)
 other_carry (Ok x) = is_granted
 other_carry (Err fault) = is_refused (Carry fault) (carry_other fault.refusal)
 
@@ -55,13 +55,13 @@ own_number : (n : ℕ) (sort : Bool) → sort ≡ true → not (eqb n n && sort)
 own_number n sort e = ap (λ (x : Bool). not (x && sort)) (eq-eqb n n refl) ∙ ap not e
 
 module _ (s : Books) where
-  other_card : (sort : Bool) (a : Answer) → sort ≡ true → Other a → Other (refused-if (not (eqb s.round s.round && sort)) WrongCard a)
-  other_card sort a e there = subst (λ (x : Bool). Other (refused-if x WrongCard a)) (sym (own_number s.round sort e)) there
+  other_card : (sort : Bool) (a : Answer) → sort ≡ true → Other a → Other (refused_if (not (eqb s.round s.round && sort)) WrongCard a)
+  other_card sort a e there = subst (λ (x : Bool). Other (refused_if x WrongCard a)) (sym (own_number s.round sort e)) there
 
-  stock_turn : (seat : ℕ) → odd s.round ≡ true → Other (on-stock-turn s s.round seat)
+  stock_turn : (seat : ℕ) → odd s.round ≡ true → Other (on_stock_turn s s.round seat)
   stock_turn seat e = other_card (odd s.round) _ e (search (other_if, is_granted, arith))
 
-  operating_turn : (company : ℕ) → not (odd s.round) ≡ true → Other (on-operating-turn s s.round company)
+  operating_turn : (company : ℕ) → not (odd s.round) ≡ true → Other (on_operating_turn s s.round company)
   operating_turn company e = other_card (not (odd s.round)) _ e (search (other_if, is_granted, arith))
 
   paying : (company revenue : ℕ) (o : Option Split) → Other (payout_granted s company revenue o)
@@ -79,15 +79,15 @@ module _ (s : Books) where
 
     own_other : (e : Entry) → Owned (call_of s.round e)
     own_other (opens book players) = tt
-    own_other (sells seat company tenths) = λ own. other_then (on-stock-turn s s.round seat) _ (stock_turn seat own) (search (other_if, is_granted, arith))
-    own_other (buys seat company source par-space) = λ own.
-        other_then (on-stock-turn s s.round seat) _ (stock_turn seat own) (other_then (may_buy b s seat company source par-space) _ (buying seat company source par-space) (search (other_then, other_if, other_carry, is_granted, arith)))
+    own_other (sells seat company tenths) = λ own. other_then (on_stock_turn s s.round seat) _ (stock_turn seat own) (search (other_if, is_granted, arith))
+    own_other (buys seat company source par_space) = λ own.
+        other_then (on_stock_turn s s.round seat) _ (stock_turn seat own) (other_then (may_buy b s seat company source par_space) _ (buying seat company source par_space) (search (other_then, other_if, other_carry, is_granted, arith)))
     own_other (ends seat) = λ own. stock_turn seat own
     own_other closes = λ own. other_card (odd s.round) _ own (search (other_if, is_granted, arith))
-    own_other (bills company amount) = λ own. other_then (on-operating-turn s s.round company) _ (operating_turn company own) (search (other_if, other_carry, arith))
-    own_other (pays_out company mode revenue) = λ own. other_then (on-operating-turn s s.round company) _ (operating_turn company own) (search (other_if, paying, arith))
-    own_other (buys_train company kind) = λ own. other_then (on-operating-turn s s.round company) _ (operating_turn company own) (search (other_if, other_carry, arith))
-    own_other (is_done company) = λ own. other_then (on-operating-turn s s.round company) _ (operating_turn company own) (search (other_if, is_granted, arith))
+    own_other (bills company amount) = λ own. other_then (on_operating_turn s s.round company) _ (operating_turn company own) (search (other_if, other_carry, arith))
+    own_other (pays_out company mode revenue) = λ own. other_then (on_operating_turn s s.round company) _ (operating_turn company own) (search (other_if, paying, arith))
+    own_other (buys_train company kind) = λ own. other_then (on_operating_turn s s.round company) _ (operating_turn company own) (search (other_if, other_carry, arith))
+    own_other (is_done company) = λ own. other_then (on_operating_turn s s.round company) _ (operating_turn company own) (search (other_if, is_granted, arith))
     own_other reopens = λ own. other_card (not (odd s.round)) _ own (search (other_if, is_granted, arith))
 
     call_other : (place : ℕ) (name : CallName) (a : Answer) → Other a → NotTwenty (fault_of (at_place place (in_call name a)))

@@ -71,7 +71,7 @@ module _ (place : ℕ) (rest : List (ℕ × Entry)) (ending : Option FileFault) 
   begun_other : (e : Entry) → NotTwenty (from_first place rest ending e).fault
   begun_other (opens number players) = book_other (numbered number) players
   begun_other (sells seat company tenths) = omega arith
-  begun_other (buys seat company source par-space) = omega arith
+  begun_other (buys seat company source par_space) = omega arith
   begun_other (ends seat) = omega arith
   begun_other closes = omega arith
   begun_other (bills company amount) = omega arith

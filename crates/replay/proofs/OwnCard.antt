@@ -1,11 +1,11 @@
 -- A granted call is made with the card of its round, and the card that is then held is that of the round then.
 use Rattle.std.proofs.Common.{◌≡◌, ℕ, Bool, true, false, cond, not, ◌&&◌, eqb, Some, None, Ok, Err, Option, sym, refl, ap, ◌∙◌, arith}
-use Rattle.std.proofs.lemmas.Bool.{cond_both, eqb-true}
+use Rattle.std.proofs.lemmas.Bool.{cond_both, not-false, eqb-true}
 use Rattle.faults.specs.Layers.{in_call, at_place}
 use Rattle.faults.specs.declared.file.FileRefusal.TheVariants.{OtherRound}
 use Rattle.faults.specs.declared.table.TableRefusal.TheVariants.{WrongCard}
 use Rattle.rulebook.specs.Book.{Book}
-use Rattle.ledger.specs.Answers.{Answer, odd, refused-if, on-stock-turn, on-operating-turn}
+use Rattle.ledger.specs.Answers.{Answer, odd, refused_if, on_stock_turn, on_operating_turn}
 use Rattle.ledger.specs.Lives.{answer, after, granted_after, if_granted, crossings_of}
 use Rattle.ledger.specs.declared.books.Books.{Books}
 use Rattle.ledger.specs.declared.call.Call.{Call}
@@ -21,10 +21,6 @@ both_true : (x y : Bool) → (x && y) ≡ true → (x ≡ true) × (y ≡ true)
 both_true true y e = (refl, e)
 both_true false y e = let z : ◌≡◌ {A = ℕ} 0 1 = cc in absurd (omega arith)
 
-not-false : (x : Bool) → not x ≡ false → x ≡ true
-not-false true e = refl
-not-false false e = let z : ◌≡◌ {A = ℕ} 0 1 = cc in absurd (omega arith)
-
 abbrev card_of : Call → ℕ
 card_of (Sell card seat company tenths) = card
 card_of (Buy card seat company source par) = card
@@ -37,21 +33,21 @@ card_of (Done card company) = card
 card_of (Reopen card) = card
 
 -- what the first test of a call says
-first_test : (s : Books) (card : ℕ) (sort : Bool) (a : Answer) → refused-if (not (eqb card s.round && sort)) WrongCard a ≡ Ok tt → (card ≡ s.round) × (sort ≡ true)
+first_test : (s : Books) (card : ℕ) (sort : Bool) (a : Answer) → refused_if (not (eqb card s.round && sort)) WrongCard a ≡ Ok tt → (card ≡ s.round) × (sort ≡ true)
 first_test s card sort a e =
     let both = both_true (eqb card s.round) sort (not-false _ (test_passed _ WrongCard a e).0) in
     (eqb-true card s.round both.0, both.1)
 
 module _ (b : Book) (s : Books) where
   own_card : (c : Call) → answer b s c ≡ Ok tt → (card_of c ≡ s.round) × (belongs (odd s.round) c ≡ true)
-  own_card (Sell card seat company tenths) e = first_test s card _ _ (both_granted (on-stock-turn s card seat) _ e).0
-  own_card (Buy card seat company source par) e = first_test s card _ _ (both_granted (on-stock-turn s card seat) _ e).0
+  own_card (Sell card seat company tenths) e = first_test s card _ _ (both_granted (on_stock_turn s card seat) _ e).0
+  own_card (Buy card seat company source par) e = first_test s card _ _ (both_granted (on_stock_turn s card seat) _ e).0
   own_card (End card seat) e = first_test s card _ _ e
   own_card (Close card) e = first_test s card _ _ e
-  own_card (Bill card company amount) e = first_test s card _ _ (both_granted (on-operating-turn s card company) _ e).0
-  own_card (Payout card company mode revenue) e = first_test s card _ _ (both_granted (on-operating-turn s card company) _ e).0
-  own_card (Train card company kind) e = first_test s card _ _ (both_granted (on-operating-turn s card company) _ e).0
-  own_card (Done card company) e = first_test s card _ _ (both_granted (on-operating-turn s card company) _ e).0
+  own_card (Bill card company amount) e = first_test s card _ _ (both_granted (on_operating_turn s card company) _ e).0
+  own_card (Payout card company mode revenue) e = first_test s card _ _ (both_granted (on_operating_turn s card company) _ e).0
+  own_card (Train card company kind) e = first_test s card _ _ (both_granted (on_operating_turn s card company) _ e).0
+  own_card (Done card company) e = first_test s card _ _ (both_granted (on_operating_turn s card company) _ e).0
   own_card (Reopen card) e = first_test s card _ _ e
 
   same_round : (a : Answer) (t : Books) → t.round ≡ s.round → s.round ≡ (if_granted a t s).round

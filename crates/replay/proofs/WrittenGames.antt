@@ -5,7 +5,7 @@ use Rattle.std.proofs.lemmas.Bool.{cond_both}
 use Rattle.faults.specs.Layers.{in_call, at_place}
 use Rattle.faults.specs.declared.file.FileFault.{FileFault}
 use Rattle.faults.specs.declared.file.FileRefusal.{FileRefusal}
-use Rattle.faults.specs.declared.table.CallName.TheVariants.{Open as open-name}
+use Rattle.faults.specs.declared.table.CallName.TheVariants.{Open as open_name}
 use Rattle.entries.specs.Entry.{Entry, opens}
 use Rattle.entries.specs.Reading.{first, from_place, read_at}
 use Rattle.entries.specs.Whole.{Outcome, reading_by, placed_from}
@@ -50,7 +50,7 @@ goes_on_from g rest short =
     let records = placed_from (size opening) es ++ o.0 in
     by_outcome file short _ (reads_front (opening ∷ es) rest)
     ∙ ap (λ (k : Option PrintedBook). from_book 0 records o.1 k g.players) g.known
-    ∙ ap (λ (k : Option ℕ). from_opening 0 records o.1 g.book (at_place 0 (in_call open-name (opened_with b g.players k)))) g.opening
+    ∙ ap (λ (k : Option ℕ). from_opening 0 records o.1 g.book (at_place 0 (in_call open_name (opened_with b g.players k)))) g.opening
     ∙ ap (game_played g.book) (calls_played b g.calls (opened b g.players g.cash) (size opening) o.0 o.1 g.granted)
 
 -- a record that is refused leaves books and card as they were

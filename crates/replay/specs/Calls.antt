@@ -10,7 +10,7 @@ use Rattle.ledger.specs.declared.call.Call.TheVariants.{Sell, Buy, End, Close, B
 abbrev pub call_of : ℕ → Entry → Option Call
 call_of card (opens book players) = None
 call_of card (sells seat company tenths) = Some (Sell card seat company tenths)
-call_of card (buys seat company source par-space) = Some (Buy card seat company source par-space)
+call_of card (buys seat company source par_space) = Some (Buy card seat company source par_space)
 call_of card (ends seat) = Some (End card seat)
 call_of card closes = Some (Close card)
 call_of card (bills company amount) = Some (Bill card company amount)

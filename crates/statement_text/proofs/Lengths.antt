@@ -89,8 +89,8 @@ module _ (b : Book) (s : Books) (law : Lawful b) (seated : s.players ≤ 6) wher
       let marks = three_digits price (omega (arith, small_price b law (company_of s company).space)) in
       let seat = digit_bound director (omega (arith, seat_found s company 1 s.players)) in
       let offered = two_digits left (omega (arith, at_most_ten (papers_at s company offering))) in
-      let in-pool = two_digits pooled (omega (arith, at_most_ten (papers_at s company pool))) in
-      omega (arith, all, number, cash, marks, seat, offered, in-pool)
+      let in_pool = two_digits pooled (omega (arith, at_most_ten (papers_at s company pool))) in
+      omega (arith, all, number, cash, marks, seat, offered, in_pool)
 
   company_length : (company : ℕ) → company ≤ b.companies → length (company_line_of b s company) ≤ 31
   company_length company h = if_opened (opened s company) _ (written_length company h)
@@ -115,9 +115,9 @@ module _ (b : Book) (s : Books) (law : Lawful b) (seated : s.players ≤ 6) wher
 
 -- so a text of the lines holds all of them
 pub all_shown : (b from : Book) (s read : Books) (text : List ℕ) → Lawful b → s.players ≤ 6 → from ≡ b → read ≡ s → text ≡ added [] (statement_of from read) → text ≡ statement_of b s
-all_shown b from s read text law seated same-book same_books e =
+all_shown b from s read text law seated same_book same_books e =
     let short = statement_length b s law seated in
     e
-    ∙ ap (λ f. added [] (statement_of f read)) same-book
+    ∙ ap (λ f. added [] (statement_of f read)) same_book
     ∙ ap (λ r. added [] (statement_of b r)) same_books
     ∙ added_fits [] (statement_of b s) (omega (arith, short))

@@ -46,8 +46,8 @@ starts_bounded b law players s e =
 -- two lives from the same opening
 pub lives_compared : (b : Book) → Lawful b → (players : ℕ) (one other : List Call) (s t u v : Books) (r : Bool) → open_answer b players ≡ Ok s → open_answer b players ≡ Ok t
     → u ≡ fold (after b) s one → v ≡ fold (after b) t other → Decides r (EqualHands u v) → Compared b players one other r
-lives_compared b law players one other s t u v r opened-s opened-t p q told =
-    let o = opened_from b players s opened-s in
+lives_compared b law players one other s t u v r opened_s opened_t p q told =
+    let o = opened_from b players s opened_s in
     let cash = o.0 in
     let start = opened b players cash in
     let same : t ≡ s = cc in
@@ -70,7 +70,7 @@ told_of_lives b d law s t r told players cash one other same opens e f =
     subst (λ (z : Books). Decides r (EqualHands z (lived b first other))) e (subst (λ (z : Books). Decides r (EqualHands s z)) g told) in
     let tells = (all_lives_stand b law players cash opens one other).hands_tell_nets in
     record {
-      nets = (λ yes-told. tells.0 (here.0 yes-told), λ nets. here.1 (tells.1 nets));
+      nets = (λ yes_told. tells.0 (here.0 yes_told), λ nets. here.1 (tells.1 nets));
       moments = λ i j. all_lives_stand b law players cash opens (drop i one) (drop j other);
       moments_turned = λ i j. all_lives_stand b law players cash opens (drop j other) (drop i one);
     }

@@ -4,14 +4,14 @@ use Rattle.std.proofs.lemmas.Bool.{not-true, not-false, and_parts, leb-true, eqb
 use Rattle.faults.specs.declared.table.TableRefusal.{TableRefusal}
 use Rattle.rulebook.specs.Book.{Book}
 use Rattle.rulebook.specs.Lawful.{Lawful}
-use Rattle.ledger.specs.Answers.{Answer, granted, refused-if, and_then, odd, on-operating-turn, same-company}
+use Rattle.ledger.specs.Answers.{Answer, granted, refused_if, and_then, odd, on_operating_turn, same_company}
 use Rattle.ledger.specs.Holdings.{is_company}
 use Rattle.ledger.specs.Operating.{reopen_answer}
 use Rattle.ledger.specs.Stock.{sell_answer, buy_answer, close_answer}
 use Rattle.ledger.specs.declared.books.Books.{Books}
 use Rattle.table.specs.Bounds.{Bounded}
 
-if_passed : (t : Bool) (why : TableRefusal) (next : Answer) → refused-if t why next ≡ granted → (t ≡ false) × (next ≡ granted)
+if_passed : (t : Bool) (why : TableRefusal) (next : Answer) → refused_if t why next ≡ granted → (t ≡ false) × (next ≡ granted)
 if_passed true why next e = let z : ◌≡◌ {A = ℕ} 0 1 = cc in absurd (omega arith)
 if_passed false why next e = (refl, e)
 
@@ -37,11 +37,11 @@ module _ (b : Book) (law : Lawful b) (s : Books) where
       company_in_book b law company (not-false _ (if_passed _ _ _ p.0).0)
 
 -- the company on turn
-is_same : (o : Option ℕ) (company : ℕ) → same-company o company ≡ true → o ≡ Some company
+is_same : (o : Option ℕ) (company : ℕ) → same_company o company ≡ true → o ≡ Some company
 is_same None company e = let z : ◌≡◌ {A = ℕ} 0 1 = cc in absurd (omega arith)
 is_same (Some n) company e = let f = eqb-true n company e in cc
 
-pub turn_range : (s : Books) → Bounded s → (card company : ℕ) (next : Answer) → granted ≡ and_then (on-operating-turn s card company) next → company ≤ 8
+pub turn_range : (s : Books) → Bounded s → (card company : ℕ) (next : Answer) → granted ≡ and_then (on_operating_turn s card company) next → company ≤ 8
 turn_range s ok card company next e =
     let turn = (if_passed _ _ _ (then_passed _ _ (sym e)).0).1 in
     ok.numbered company (is_same s.operating.company company (not-false _ (if_passed _ _ _ turn).0))

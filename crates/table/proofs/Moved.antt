@@ -77,10 +77,10 @@ module _ (b : Book) (s t u v w : Books) (seat company source space : ℕ)
   seated = ap (λ (z : Books). z.players) exchanged ∙ all_same_players middle change ∙ all_same_players s before
 
   module _ (floating : Bool) (money : ℕ) (tested : floating ≡ floats b s company source) (counted : money ≡ float_money b s company source space)
-      (floated-then : v ≡ all_crossed u (cond floating (pays bank (treasury u company) money ∷ []) [])) where
+      (floated_then : v ≡ all_crossed u (cond floating (pays bank (treasury u company) money ∷ []) [])) where
     all_moved : v ≡ all_crossed s (before ++ (change ++ float_crossing b s company source space))
     all_moved =
-        floated-then
+        floated_then
         ∙ ap (λ n. all_crossed u (cond floating (pays bank (n + company) money ∷ []) [])) seated
         ∙ ap (λ n. all_crossed u (cond floating (pays bank (s.players + company) n ∷ []) [])) counted
         ∙ ap (λ t. all_crossed u (cond t (pays bank (s.players + company) (float_money b s company source space) ∷ []) [])) tested

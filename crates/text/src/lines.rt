@@ -55,18 +55,19 @@ impl Text {
         self.push_wide(n);
     }
 
-    // What both lines of a refusal begin with.
+    // What a refusal with its place begins with.
     fn push_refused(&mut self, number: u8)
         ensures { shown self.new ≡ added (shown self.old) (refused_number number) }
     {
         self.push_bytes(b"refused ");
-        self.push_number(u32::from(number));
+        self.push_wide(u64::from(number));
     }
 
     pub fn push_refused_line(&mut self, number: u8)
         ensures { shown self.new ≡ added (shown self.old) (refused_line number) }
     {
-        self.push_refused(number);
+        self.push_bytes(b"refused ");
+        self.push_number(u32::from(number));
         self.push_bytes(b"\n");
     }
 

@@ -7,6 +7,6 @@ pub returns : goal.returns
 returns c =
     let start = shown c.args.self.now in
     let word = shown c.push_bytes.new.self in
-    let all = shown c.push_number.new.self in
-    let digits = c.push_number.ensures ∙ ap (λ n. added word (decimal n)) c.from.ensures in
+    let all = shown c.push_wide.new.self in
+    let digits = c.push_wide.ensures ∙ ap (λ n. added word (decimal n)) c.from.ensures in
     added_then start word all (codes "refused ") (decimal c.args.number) c.push_bytes.ensures digits
