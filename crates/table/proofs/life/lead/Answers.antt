@@ -9,7 +9,7 @@ loop-call-preserved g c =
     let m = g.B.RuleBook.meaning in
     let t = c.args.table.now in
     let l = c.loop-call in
-    let made = c.make-call in (
+    let made = c.make_call in (
       call_more (m t.book) (m l.table.book) t.books l.table.books made.new.table.books c.args.calls.now l.call-index (Sell 0 0 0 0) c.loop-call-test.true (ap m l.invariant.1) l.invariant.0 made.ensures.made,
       made.ensures.same ∙ l.invariant.1,
     )
