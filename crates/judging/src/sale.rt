@@ -1,5 +1,5 @@
 // May a seat sell, and what does the sale bring?
-ghost use Rattle.std.specs.Prelude.{◌≡◌, ◌*◌, ◌||◌, not, ltb, eqb};
+ghost use Rattle.std.specs.Prelude.{◌≡◌, ◌*◌, ◌||◌, not, ◌==◌, nat_lt};
 ghost use Rattle.ledger.specs.Holdings.{seat_tenths, price_of};
 ghost use Rattle.ledger.specs.Stock.{director_needed, another_leads, sell_answer};
 
@@ -10,7 +10,7 @@ use ledger::books::Books;
 use rulebook::book::RuleBook;
 
 fn can_sell(books: &Books, seat: u8, company: u8, tenths: u8) -> bool
-    ensures { not result ≡ (eqb tenths 0 || ltb (seat_tenths books.now company seat) tenths) }
+    ensures { not result ≡ (tenths == 0 || nat_lt (seat_tenths books.now company seat) tenths) }
 {
     tenths > 0 && u32::from(tenths) <= seat_tenths(books, company, seat)
 }
