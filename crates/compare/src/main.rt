@@ -178,7 +178,8 @@ fn main(rt: HostRuntime) -> anyhow::Result<ExitCode> {
     let mut words = env::args(&rt)?;
     let _ = words.next();
     let (Some(one), Some(other), None) = (words.next(), words.next(), words.next()) else {
-        return Err(anyhow!("compare: give the names of two game files, as in: compare A B"));
+        eprintln!(rt; "compare: give the names of two game files, as in: compare A B")?;
+        return Ok(ExitCode::FAILURE);
     };
     compare_files(&rt, one.as_str(), other.as_str())?;
     Ok(ExitCode::SUCCESS)
