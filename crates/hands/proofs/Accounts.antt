@@ -3,10 +3,11 @@ use Rattle.std.proofs.Common.{◌≡◌, ℕ, ◌<◌, true, cond, eqb, ◌≢�
 use Rattle.std.proofs.lemmas.Int.{ints}
 use Rattle.std.proofs.lemmas.Bool.{eq-eqb, ne_eqb, cases_eq}
 use Rattle.std.specs.List.{slice_get}
+use Rattle.std.proofs.lemmas.Option.{get_or_from_slice_get, slice_get_within}
 use Rattle.hands.specs.Kind.{Kind}
 use Rattle.hands.specs.Carry.{Outcome, carried}
 use Rattle.hands.specs.Tallies.{Tallies, TallyLaws}
-use Rattle.hands.proofs.Ways.{by_ways, nth_length, read_at}
+use Rattle.hands.proofs.Ways.{by_ways}
 
 module _ {H L : Type 0} (k : Kind H L) (t : Tallies H L) (laws : TallyLaws k t) (row : List H) (i j : ℕ) (l : L) where
   -- what a hand gets and gives in the carry
@@ -26,16 +27,16 @@ module _ {H L : Type 0} (k : Kind H L) (t : Tallies H L) (laws : TallyLaws k t) 
 
       at_giver : Told (Ok tt, next) i
       at_giver =
-          let read = get_or-set_other (set row i (k.given a l)) j i (k.taken b l) d ne ∙ get_or-set_same row i (k.given a l) d (nth_length row i a at_i) in
+          let read = get_or-set_other (set row i (k.given a l)) j i (k.taken b l) d ne ∙ get_or-set_same row i (k.given a l) d (slice_get_within row i a at_i) in
           let low = ap (λ h. t.tally h tag) read ∙ laws.lowers a l tag can in
-          let was = ap (λ h. t.tally h tag) (read_at row i d a at_i) in
+          let was = ap (λ h. t.tally h tag) (get_or_from_slice_get row i a d at_i) in
           rw (ne_eqb i j ne, eq-eqb i i refl) (omega (arith, ints, low, was))
 
       at_receiver : Told (Ok tt, next) j
       at_receiver =
-          let read = get_or-set_same (set row i (k.given a l)) j (k.taken b l) d (subst (λ n. j < n) (sym (length-set row i (k.given a l))) (nth_length row j b at_j)) in
+          let read = get_or-set_same (set row i (k.given a l)) j (k.taken b l) d (subst (λ n. j < n) (sym (length-set row i (k.given a l))) (slice_get_within row j b at_j)) in
           let high = ap (λ h. t.tally h tag) read ∙ laws.raises b l tag may in
-          let was = ap (λ h. t.tally h tag) (read_at row j d b at_j) in
+          let was = ap (λ h. t.tally h tag) (get_or_from_slice_get row j b d at_j) in
           rw (eq-eqb j j refl, ne_eqb j i (λ e. ne (sym e))) (omega (arith, ints, high, was))
 
       elsewhere : (p : ℕ) → p ≢ i → p ≢ j → Told (Ok tt, next) p

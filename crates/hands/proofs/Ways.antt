@@ -1,44 +1,13 @@
 -- What a carry answers on each of its ways.
-use Rattle.std.proofs.Common.{◌≡◌, ℕ, zero, suc, ◌<◌, ◌≤◌, Bool, true, false, eqb, ◌≢◌, ◌⊎◌, List, [], ◌∷◌, length, get_or, set, Some, None, Ok, Err, Option, Result, sym, refl, ap, ◌∙◌, inl, inr, le_of_suc-le-suc, not-suc-le-zero, arith, get_or-set_other}
-use Rattle.std.proofs.lemmas.Option.{slice_get-get_or, slice_get_past}
-use Rattle.std.proofs.lemmas.Bool.{eq-eqb, ne_eqb, eqb-false, cond_both}
+use Rattle.std.proofs.Common.{◌≡◌, ℕ, ◌<◌, Bool, true, false, eqb, ◌≢◌, List, length, get_or, set, Some, None, Ok, Err, Option, Result, sym, refl, ap, ◌∙◌, arith, get_or-set_other}
+use Rattle.std.proofs.lemmas.Option.{get_or_from_slice_get, slice_get_within}
+use Rattle.std.proofs.lemmas.Bool.{ne_eqb, eqb-false, cond_both}
 use Rattle.std.specs.List.{slice_get}
 use Rattle.hands.specs.Kind.{Kind}
 use Rattle.hands.specs.Carry.{Outcome, between, carried, refused}
 use Rattle.hands.specs.declared.fault.CarryFault.{CarryFault}
 use Rattle.hands.specs.declared.fault.CarryRefusal.{CarryRefusal}
 use Rattle.hands.specs.declared.fault.CarryRefusal.TheVariants.{OutsideRow, SameHand, CannotGive, CannotTake}
-
-pub nth_some : {X : Type 0} (xs : List X) (i : ℕ) → i < length xs → (x : X) × (slice_get xs i ≡ Some x)
-nth_some [] i h = absurd (not-suc-le-zero h)
-nth_some (x ∷ xs) zero h = (x, refl)
-nth_some (x ∷ xs) (suc i) h = nth_some xs i (le_of_suc-le-suc h)
-
-module _ {H L : Type 0} (k : Kind H L) (row : List H) (i j : ℕ) (l : L) where
-  pub outside : (length row ≤ i) ⊎ ((i < length row) × (length row ≤ j)) → carried k row i j l ≡ refused row i j OutsideRow
-  outside (inl h) = rw (slice_get_past row i h)
-  outside (inr (h, past)) = let p = nth_some row i h in rw (p.1, slice_get_past row j past)
-
-  module _ (hi : i < length row) (hj : j < length row) where
-    pub same : i ≡ j → carried k row i j l ≡ refused row i j SameHand
-    same e = let p = nth_some row i hi in let q = nth_some row j hj in rw (p.1, q.1, eq-eqb i j e)
-
-    module _ (ne : i ≢ j) (a : H) (read_a : a ≡ get_or row i a) where
-      at_giver : slice_get row i ≡ Some a
-      at_giver = slice_get-get_or row i a hi ∙ ap Some (sym read_a)
-
-      pub cannot_give : false ≡ k.can_give a l → carried k row i j l ≡ refused row i j CannotGive
-      cannot_give f = let q = nth_some row j hj in rw (at_giver, q.1, ne_eqb i j ne, ← f)
-
-      module _ (b : H) (read_b : b ≡ get_or row j b) (gives : true ≡ k.can_give a l) where
-        at_receiver : slice_get row j ≡ Some b
-        at_receiver = slice_get-get_or row j b hj ∙ ap Some (sym read_b)
-
-        pub cannot_take : false ≡ k.can_take b l → carried k row i j l ≡ refused row i j CannotTake
-        cannot_take f = rw (at_giver, at_receiver, ne_eqb i j ne, ← gives, ← f)
-
-        pub moved : true ≡ k.can_take b l → carried k row i j l ≡ (Ok tt, set (set row i (k.given a l)) j (k.taken b l))
-        moved t = rw (at_giver, at_receiver, ne_eqb i j ne, ← gives, ← t)
 
 -- a carry that nothing stands against
 pub granted : {H L : Type 0} (k : Kind H L) (row : List H) (i j : ℕ) (l : L) (a b : H) → slice_get row i ≡ Some a → slice_get row j ≡ Some b → i ≢ j → k.can_give a l ≡ true → k.can_take b l ≡ true → carried k row i j l ≡ (Ok tt, set (set row i (k.given a l)) j (k.taken b l))
@@ -60,14 +29,6 @@ module _ {H L : Type 0} (k : Kind H L) (row : List H) (i j : ℕ) (l : L) (P : O
   pub by_ways : P (carried k row i j l)
   by_ways = by_hands (slice_get row i) (slice_get row j) (eqb i j) refl refl refl
 
-pub nth_length : {X : Type 0} (xs : List X) (i : ℕ) (x : X) → slice_get xs i ≡ Some x → i < length xs
-nth_length [] i x e = let z : ◌≡◌ {A = ℕ} 0 1 = cc in absurd (omega arith)
-nth_length (y ∷ ys) zero x e = omega arith
-nth_length (y ∷ ys) (suc i) x e = let h = nth_length ys i x e in omega arith
-
-pub read_at : {X : Type 0} (xs : List X) (i : ℕ) (d x : X) → slice_get xs i ≡ Some x → get_or xs i d ≡ x
-read_at xs i d x e = let f : Some (get_or xs i d) ≡ Some x = sym (slice_get-get_or xs i d (nth_length xs i x e)) ∙ e in cc
-
 module _ {H L : Type 0} (k : Kind H L) (row : List H) (i j : ℕ) (l : L) where
   -- a refusal leaves the row as it was
   pub refusal_keeps : (f : CarryFault) → (carried k row i j l).0 ≡ Err f → (Err f, row) ≡ carried k row i j l
@@ -85,16 +46,16 @@ module _ {H L : Type 0} (k : Kind H L) (row : List H) (i j : ℕ) (l : L) where
     never why e = let z : ◌≡◌ {A = ℕ} 0 1 = cc in absurd (omega arith)
 
     pub giver_inside : i < length row
-    giver_inside = by_ways k row i j l (WhenMoved (i < length row)) never (λ a b p q ne g t e. nth_length row i a p) ok
+    giver_inside = by_ways k row i j l (WhenMoved (i < length row)) never (λ a b p q ne g t e. slice_get_within row i a p) ok
 
     pub receiver_inside : j < length row
-    receiver_inside = by_ways k row i j l (WhenMoved (j < length row)) never (λ a b p q ne g t e. nth_length row j b q) ok
+    receiver_inside = by_ways k row i j l (WhenMoved (j < length row)) never (λ a b p q ne g t e. slice_get_within row j b q) ok
 
     pub done : (x y d e : H) → x ≡ k.given (get_or row i d) l → y ≡ k.taken (get_or (set row i x) j e) l → (Ok tt, set (set row i x) j y) ≡ carried k row i j l
     done x y d e gave took =
         by_ways k row i j l (λ o. o.0 ≡ Ok tt → (Ok tt, set (set row i x) j y) ≡ o) (λ why. never why)
         (λ a b p q ne g t _.
-        let first : x ≡ k.given a l = gave ∙ ap (λ z. k.given z l) (read_at row i d a p) in
-        let second : y ≡ k.taken b l = took ∙ ap (λ z. k.taken z l) (get_or-set_other row i j x e (λ r. ne (sym r)) ∙ read_at row j e b q) in
+        let first : x ≡ k.given a l = gave ∙ ap (λ z. k.given z l) (get_or_from_slice_get row i a d p) in
+        let second : y ≡ k.taken b l = took ∙ ap (λ z. k.taken z l) (get_or-set_other row i j x e (λ r. ne (sym r)) ∙ get_or_from_slice_get row j b e q) in
         λ n. (Ok tt, set (set row i (first n)) j (second n)))
         ok

@@ -13,33 +13,22 @@ pub fn can_carry<H: Hand>(
 ) -> Result<(), CarryFault>
     ensures { result ≡ (carried H.kind row.now giver receiver load).0 }
 {
-    if giver >= row.len() || receiver >= row.len() {
-        return Err(CarryFault {
-            refusal: CarryRefusal::OutsideRow,
-            giver,
-            receiver,
-        });
-    }
+    let refused = |refusal| Err(CarryFault {
+        refusal,
+        giver,
+        receiver,
+    });
+    let (Some(from), Some(to)) = (row.get(giver), row.get(receiver)) else {
+        return refused(CarryRefusal::OutsideRow);
+    };
     if giver == receiver {
-        return Err(CarryFault {
-            refusal: CarryRefusal::SameHand,
-            giver,
-            receiver,
-        });
+        return refused(CarryRefusal::SameHand);
     }
-    if !row[giver].can_give(load) {
-        return Err(CarryFault {
-            refusal: CarryRefusal::CannotGive,
-            giver,
-            receiver,
-        });
+    if !from.can_give(load) {
+        return refused(CarryRefusal::CannotGive);
     }
-    if !row[receiver].can_take(load) {
-        return Err(CarryFault {
-            refusal: CarryRefusal::CannotTake,
-            giver,
-            receiver,
-        });
+    if !to.can_take(load) {
+        return refused(CarryRefusal::CannotTake);
     }
     Ok(())
 }

@@ -1,5 +1,5 @@
 // Hands that tell, for each tag of their kind, how much they hold.
-ghost use Rattle.std.specs.Prelude.{◌≡◌, true};
+ghost use Rattle.std.specs.Prelude.{◌≡◌, ℕ, true};
 ghost use Rattle.hands.specs.Tallies.{Tallies, TallyLaws, EitherOrder, BackAgain};
 
 use crate::hand::Hand;
@@ -7,16 +7,16 @@ use crate::hand::Hand;
 pub trait Tallied: Hand {
     const CEILING: u32;
 
+    ghost CEILING: { ℕ };
+
     // What the kind's tags, tallies, floors and loads are.
     ghost tallies: { Tallies Self Self.Load };
-
-    // The ceiling as a clause can name it.
-    fn most() -> u32
-        ensures { result ≡ tallies.ceiling };
 
     // How much of a tag the hand holds: 0 for a tag outside the kind.
     fn tally(&self, tag: u8) -> i32
         ensures { result ≡ tallies.tally self.now tag };
+
+    ghost ceiling_is: { CEILING ≡ tallies.ceiling };
 
     ghost lawful: { TallyLaws Self.Hand.kind tallies };
 

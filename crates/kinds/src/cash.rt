@@ -7,7 +7,7 @@ pub mod hand;
 pub mod value;
 
 // Marks in a hand, never below its floor nor above the ceiling.
-#[derive(Clone, Copy)]
+#[derive(Clone, Copy, PartialEq, Eq, Debug)]
 pub struct Cash {
     marks: i32,
     floor: CashFloor,

@@ -4,7 +4,7 @@ pub mod hand;
 pub mod value;
 
 // How many trains of each of the eight kinds a hand holds.
-#[derive(Clone, Copy)]
+#[derive(Clone, Copy, PartialEq, Eq, Debug)]
 pub struct Trains {
     counts: [u8; 8],
     ghost eight: { length counts ≡ 8 },

@@ -1,3 +1,4 @@
+ghost use Rattle.std.specs.Prelude.{refl};
 ghost use Rattle.kinds.specs.Cash.{cash, cash_tallies, can_give, can_take};
 ghost use Rattle.kinds.specs.Made.{failed};
 ghost use Rattle.kinds.specs.Marks.{cash_laws};
@@ -21,7 +22,7 @@ impl Hand for Cash {
     }
 
     fn can_take(&self, load: u32) -> bool {
-        i64::from(self.marks) + i64::from(load) <= i64::from(<Cash as Tallied>::CEILING)
+        i64::from(self.marks) + i64::from(load) <= i64::from(Self::CEILING)
     }
 
     fn give(&mut self, load: u32) {
@@ -40,17 +41,17 @@ impl Hand for Cash {
 impl Tallied for Cash {
     const CEILING: u32 = 1_000_000;
 
+    ghost CEILING = { 1000000 };
+
     ghost tallies = { cash_tallies };
+
+    ghost ceiling_is = { refl };
 
     ghost lawful = { cash_laws };
 
     ghost either_order = { either_order_lem cash cash_tallies cash_laws };
 
     ghost back_again = { back_again_lem cash cash_tallies cash_laws };
-
-    fn most() -> u32 {
-        Self::CEILING
-    }
 
     fn tally(&self, tag: u8) -> i32 {
         if tag == 0 { self.marks } else { 0 }

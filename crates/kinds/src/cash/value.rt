@@ -3,13 +3,14 @@ ghost use Rattle.kinds.specs.Cash.{cash_new};
 
 use super::Cash;
 use crate::cash_floor::CashFloor;
+use hands::tallied::Tallied;
 
 impl Cash {
     // A hand with so many marks, if they lie from its floor to the ceiling.
     pub fn new(floor: CashFloor, marks: i32) -> Option<Cash>
         ensures { result ≡ cash_new floor marks }
     {
-        if marks < floor.marks() || marks > 1_000_000 {
+        if marks < floor.marks() || marks > Cash::CEILING as i32 {
             return None;
         }
         Some(Cash { marks, floor })
@@ -20,7 +21,7 @@ impl Cash {
         ensures { Some result ≡ cash_new floor (pos marks) }
     {
         Cash {
-            marks: marks as i32,
+            marks: i32::from(marks),
             floor,
         }
     }

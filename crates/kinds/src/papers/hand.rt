@@ -1,3 +1,4 @@
+ghost use Rattle.std.specs.Prelude.{refl};
 ghost use Rattle.kinds.specs.Papers.{papers, papers_tallies, can_give, can_take};
 ghost use Rattle.kinds.specs.Made.{failed};
 ghost use Rattle.kinds.specs.Certificates.{papers_laws};
@@ -18,11 +19,11 @@ impl Hand for Papers {
     ghost not_taken = { λ h l e. failed (can_take h l) _ h e };
 
     fn can_give(&self, load: CertificateSet) -> bool {
-        load.bits < 512 && self.certificates & load.bits == load.bits
+        load.is_of_company() && self.certificates & load.bits == load.bits
     }
 
     fn can_take(&self, load: CertificateSet) -> bool {
-        load.bits < 512 && self.certificates & load.bits == 0
+        load.is_of_company() && self.certificates & load.bits == 0
     }
 
     fn give(&mut self, load: CertificateSet) {
@@ -41,7 +42,11 @@ impl Hand for Papers {
 impl Tallied for Papers {
     const CEILING: u32 = 1;
 
+    ghost CEILING = { 1 };
+
     ghost tallies = { papers_tallies };
+
+    ghost ceiling_is = { refl };
 
     ghost lawful = { papers_laws };
 
@@ -49,15 +54,7 @@ impl Tallied for Papers {
 
     ghost back_again = { back_again_lem papers papers_tallies papers_laws };
 
-    fn most() -> u32 {
-        Self::CEILING
-    }
-
     fn tally(&self, tag: u8) -> i32 {
-        if tag < 9 {
-            i32::from(self.certificates >> tag & 1)
-        } else {
-            0
-        }
+        i32::from(self.certificates().contains(tag))
     }
 }

@@ -28,6 +28,7 @@ impl Papers {
         }
     }
 
+    #[tactic(auto, using(crate::specs::Certificates::counted))]
     pub fn count(&self) -> u32
         ensures { result ≡ certificate_count self.now }
     {

@@ -19,10 +19,6 @@ impl Trains {
     pub fn count(&self, kind: u8) -> u8
         ensures { result ≡ slice_index self.now.counts kind }
     {
-        if kind < 8 {
-            self.counts[kind as usize]
-        } else {
-            0
-        }
+        self.counts.get(usize::from(kind)).copied().unwrap_or(0)
     }
 }

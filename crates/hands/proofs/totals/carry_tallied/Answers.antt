@@ -3,17 +3,12 @@ use Rattle.hands.specs.Totals.{TotalsKept, ElsewhereSame}
 use Rattle.hands.proofs.Kept.{totals_kept, elsewhere_same}
 use Rattle.hands.proofs.totals.carry_tallied.Goals as goal
 
-pub returns : goal.returns
-returns g c =
-    let k = g.H.Hand.kind in
-    let t = g.H.Tallied.tallies in
-    let row = c.args.row.now in
-    let i = c.args.giver in
-    let j = c.args.receiver in
-    let l = c.args.load in
-    let e = ap (λ o. o.1) (sym c.carry.ensures) in
-    record {
-      outcome = c.carry.ensures;
-      totals = subst (λ r. TotalsKept t row r) e (totals_kept k row i j l t g.met.H.Tallied.lawful);
-      elsewhere = subst (λ r. ElsewhereSame i j row r) e (elsewhere_same k row i j l);
-    }
+pub returns-clause-totals : goal.returns-clause-totals
+returns-clause-totals g c =
+    subst (λ r. TotalsKept g.H.Tallied.tallies c.args.row.now r) (ap (λ o. o.1) (sym c.carry.ensures))
+    (totals_kept g.H.Hand.kind c.args.row.now c.args.giver c.args.receiver c.args.load g.H.Tallied.tallies g.met.H.Tallied.lawful)
+
+pub returns-clause-elsewhere : goal.returns-clause-elsewhere
+returns-clause-elsewhere g c =
+    subst (λ r. ElsewhereSame c.args.giver c.args.receiver c.args.row.now r) (ap (λ o. o.1) (sym c.carry.ensures))
+    (elsewhere_same g.H.Hand.kind c.args.row.now c.args.giver c.args.receiver c.args.load)

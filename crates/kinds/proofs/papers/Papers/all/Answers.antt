@@ -1,6 +1,0 @@
-use Rattle.std.proofs.Common.{refl}
-use Rattle.kinds.specs.Certificates.{same_papers}
-use Rattle.kinds.proofs.papers.Papers.all.Goals as goal
-
-pub returns : goal.returns
-returns c = same_papers _ _ refl
