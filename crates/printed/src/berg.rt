@@ -10,7 +10,7 @@ use rulebook::split::Split;
 const OPENING_CASH: [u16; 4] = [600, 450, 360, 300];
 
 // Book 2: sold funding, and a sale steps left once, however many tenths.
-#[derive(Clone, Copy)]
+#[derive(Clone, Copy, PartialEq, Eq, Debug)]
 pub struct Berg;
 
 impl RuleBook for Berg {
@@ -23,11 +23,7 @@ impl RuleBook for Berg {
     }
 
     fn opening_cash(&self, players: u8) -> Option<u16> {
-        if players >= 3 && players <= 6 {
-            Some(OPENING_CASH[players as usize - 3])
-        } else {
-            None
-        }
+        figures::entry_for(&OPENING_CASH, 3, players)
     }
 
     fn companies(&self) -> u8 {

@@ -1,5 +1,5 @@
 // The figures that both printed books share.
-ghost use Rattle.std.specs.Prelude.{◌≡◌};
+ghost use Rattle.std.specs.Prelude.{◌≡◌, ◌-◌, None, cond, nat_le, slice_get};
 ghost use Rattle.printed.specs.Figures.{certificate_limit, price, par, train_price, train_count, float, step_right, steps_left, on_chart, after_payout, split};
 
 use rulebook::split::Split;
@@ -8,6 +8,7 @@ const PRICES: [u16; 16] = [
     40, 50, 60, 67, 71, 76, 82, 90, 100, 112, 126, 142, 160, 180, 200, 225,
 ];
 
+// Apart from the prices: as structs, the sixteen spaces would fill four lines each.
 const PAR_MARKS: [bool; 16] = [
     false, false, false, true, true, true, true, true, true, false, false, false, false, false,
     false, false,
@@ -16,9 +17,33 @@ const PAR_MARKS: [bool; 16] = [
 // For two to six players.
 const CERTIFICATE_LIMITS: [u8; 5] = [28, 20, 16, 13, 11];
 
-const TRAIN_PRICES: [u16; 5] = [80, 180, 300, 450, 630];
+struct TrainKind {
+    price: u16,
+    count: u8,
+}
 
-const TRAIN_COUNTS: [u8; 5] = [7, 4, 3, 3, 2];
+const TRAINS: [TrainKind; 5] = [
+    TrainKind {
+        price: 80,
+        count: 7,
+    },
+    TrainKind {
+        price: 180,
+        count: 4,
+    },
+    TrainKind {
+        price: 300,
+        count: 3,
+    },
+    TrainKind {
+        price: 450,
+        count: 3,
+    },
+    TrainKind {
+        price: 630,
+        count: 2,
+    },
+];
 
 pub(crate) const COMPANIES: u8 = 8;
 
@@ -33,7 +58,7 @@ pub(crate) const TRAIN_KINDS: u8 = 5;
 pub(crate) fn float_of(company: u8) -> u8
     ensures { result ≡ float company }
 {
-    if company >= 1 && company <= COMPANIES {
+    if (1..=COMPANIES).contains(&company) {
         5
     } else {
         0
@@ -43,60 +68,59 @@ pub(crate) fn float_of(company: u8) -> u8
 pub(crate) fn certificate_limit_of(players: u8) -> u8
     ensures { result ≡ certificate_limit players }
 {
-    if players >= 2 && players <= 6 {
-        CERTIFICATE_LIMITS[players as usize - 2]
-    } else {
-        0
-    }
+    entry_for(&CERTIFICATE_LIMITS, 2, players).unwrap_or(0)
+}
+
+// The entry for so many players, in a table that begins with the fewest.
+pub(crate) fn entry_for<T: Copy>(table: &[T], fewest: u8, players: u8) -> Option<T>
+    ensures { result ≡ cond (nat_le fewest players) (slice_get table.now (players - fewest)) None }
+{
+    players
+        .checked_sub(fewest)
+        .and_then(|more| table.get(usize::from(more)))
+        .copied()
 }
 
 pub(crate) fn price_of(space: u16) -> u16
     ensures { result ≡ price space }
 {
-    if space < SPACES {
-        PRICES[space as usize]
-    } else {
-        0
-    }
+    PRICES.get(usize::from(space)).copied().unwrap_or(0)
 }
 
 pub(crate) fn par_mark_of(space: u16) -> bool
     ensures { result ≡ par space }
 {
-    space < SPACES && PAR_MARKS[space as usize]
+    PAR_MARKS.get(usize::from(space)).copied().unwrap_or(false)
+}
+
+// Where a step from a space ends; from a space that the chart lacks, a token comes to space 0.
+fn on_chart(space: u16, after: u16) -> u16
+    ensures { result ≡ on_chart space after }
+{
+    if space < SPACES { after } else { 0 }
 }
 
 // One step left for each count, and no step past the end of the chart.
+#[tactic(auto, using(crate::specs::Steps::steps_at_once))]
 pub(crate) fn left_of(space: u16, steps: u8) -> u16
     ensures { result ≡ on_chart space (steps_left steps space) }
 {
-    if space < SPACES {
-        space.saturating_sub(u16::from(steps))
-    } else {
-        0
-    }
+    on_chart(space, space.saturating_sub(u16::from(steps)))
 }
 
 fn right_of(space: u16) -> u16
     ensures { result ≡ on_chart space (step_right space) }
 {
-    if space >= SPACES {
-        0
-    } else if space + 1 < SPACES {
-        space + 1
-    } else {
-        space
-    }
+    on_chart(space, space.saturating_add(1).min(SPACES - 1))
 }
 
 pub(crate) fn after_payout_of(space: u16, mode: u8, revenue: u16) -> u16
     ensures { result ≡ after_payout space mode revenue }
 {
-    match mode {
-        0 => left_of(space, 1),
-        1 if revenue == 0 => left_of(space, 1),
-        1 => right_of(space),
-        _ => left_of(space, 0),
+    match (mode, revenue) {
+        (0, _) | (1, 0) => left_of(space, 1),
+        (1, _) => right_of(space),
+        _ => on_chart(space, space),
     }
 }
 
@@ -122,19 +146,11 @@ pub(crate) fn split_of(mode: u8, revenue: u16) -> Option<Split>
 pub(crate) fn train_price_of(kind: u8) -> u16
     ensures { result ≡ train_price kind }
 {
-    if kind < TRAIN_KINDS {
-        TRAIN_PRICES[kind as usize]
-    } else {
-        0
-    }
+    TRAINS.get(usize::from(kind)).map_or(0, |train| train.price)
 }
 
 pub(crate) fn train_count_of(kind: u8) -> u8
     ensures { result ≡ train_count kind }
 {
-    if kind < TRAIN_KINDS {
-        TRAIN_COUNTS[kind as usize]
-    } else {
-        0
-    }
+    TRAINS.get(usize::from(kind)).map_or(0, |train| train.count)
 }

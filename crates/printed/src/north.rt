@@ -11,7 +11,7 @@ use rulebook::split::Split;
 const OPENING_CASH: [u16; 5] = [1_200, 800, 600, 480, 400];
 
 // Book 1: full funding, and a sale steps left once for each tenth.
-#[derive(Clone, Copy)]
+#[derive(Clone, Copy, PartialEq, Eq, Debug)]
 pub struct North;
 
 impl RuleBook for North {
@@ -24,11 +24,7 @@ impl RuleBook for North {
     }
 
     fn opening_cash(&self, players: u8) -> Option<u16> {
-        if players >= 2 && players <= 6 {
-            Some(OPENING_CASH[players as usize - 2])
-        } else {
-            None
-        }
+        figures::entry_for(&OPENING_CASH, 2, players)
     }
 
     fn companies(&self) -> u8 {
