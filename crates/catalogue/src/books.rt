@@ -1,4 +1,5 @@
 ghost use Rattle.std.specs.Prelude.{◌≡◌};
+ghost use Rattle.std.specs.Result.{result_ok};
 ghost use Rattle.catalogue.specs.Printed.{printed_meaning, numbered};
 ghost use Rattle.catalogue.specs.Ranges.{printed_lawful};
 
@@ -9,23 +10,33 @@ use rulebook::funding::Funding;
 use rulebook::split::Split;
 
 // A printed book, known by its number in a game file.
-#[derive(Clone, Copy)]
+#[derive(Clone, Copy, PartialEq, Eq, Debug)]
 pub enum PrintedBook {
     North,
     Berg,
 }
 
+// No printed book has the number.
+#[derive(Clone, Copy, PartialEq, Eq, Debug)]
+pub struct UnknownBook;
+
 // Book 1 is North, book 2 is Berg.
-pub fn printed_book(number: u8) -> Option<PrintedBook>
-    ensures { result ≡ numbered number }
-{
-    match number {
-        1 => Some(PrintedBook::North),
-        2 => Some(PrintedBook::Berg),
-        _ => None,
+impl TryFrom<u8> for PrintedBook {
+    type Error = UnknownBook;
+
+    ghost try_from_gives = { λ number result. result_ok result ≡ numbered number };
+
+    fn try_from(number: u8) -> Result<Self, UnknownBook> {
+        match number {
+            1 => Ok(PrintedBook::North),
+            2 => Ok(PrintedBook::Berg),
+            _ => Err(UnknownBook),
+        }
     }
 }
 
+// Each question is passed on by a match of its own: a `dyn` book would have to be handed out by a function, and a closure
+// for each question is no shorter.
 impl RuleBook for PrintedBook {
     ghost meaning = { printed_meaning };
 

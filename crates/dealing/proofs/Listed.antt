@@ -1,6 +1,6 @@
 -- The text of an opening line by line, and that it fits.
-use Rattle.std.proofs.Common.{◌≡◌, ℕ, suc, ◌+◌, ◌*◌, ◌<◌, ◌≤◌, List, [], ◌∷◌, ◌++◌, map, length, get_or, take, ℤ, pos, negsuc, ◌≤ℤ◌, sym, ap, ◌∙◌, add-one, arith, w32, SFits}
-use Rattle.std.proofs.lemmas.List.{append-nil, append_assoc, take_more, take-map, get_or-map, length-take, length-map, length-append}
+use Rattle.std.proofs.Common.{◌≡◌, ℕ, zero, suc, ◌+◌, ◌-◌, ◌*◌, ◌<◌, ◌≤◌, List, [], ◌∷◌, ◌++◌, map, length, get_or, take, take-suc, ℤ, pos, negsuc, ◌≤ℤ◌, sym, ap, ◌∙◌, arith, w32, SFits}
+use Rattle.std.proofs.lemmas.List.{append-nil, append_assoc, take-map, get_or-map, length-take, length-map, length-append}
 use Rattle.std.proofs.lemmas.Int.{ints}
 use Rattle.kinds.specs.declared.cash.Cash.{Cash}
 use Rattle.kinds.specs.Marks.{floor_range}
@@ -19,18 +19,21 @@ seat_lines_push n (x ∷ xs) y =
     ap (λ l. seat_line n x.1 0 ++ l) (seat_lines_push (suc n) xs y ∙ ap (λ m. seat_lines (suc n) xs ++ seat_line m y.1 0) (omega arith))
     ∙ sym (append_assoc (seat_line n x.1 0) (seat_lines (suc n) xs) (seat_line (n + suc (length xs)) y.1 0))
 
-pub seat_next : (row : List Cash) (d : Cash) (k : ℕ) → k + 1 < length row → listed (k + 1) (map hand_view row) ≡ listed k (map hand_view row) ++ seat_line (k + 1) (get_or row (k + 1) d).marks 0
-seat_next [] d k h = absurd (omega arith)
-seat_next (c ∷ cs) d k h =
+pub seat_next : (row : List Cash) (d : Cash) (seat : ℕ) → 1 ≤ seat → seat < length row
+    → listed seat (map hand_view row) ≡ listed (seat - 1) (map hand_view row) ++ seat_line seat (get_or row seat d).marks 0
+seat_next row d zero first h = absurd (omega arith)
+seat_next [] d (suc k) first h = absurd (omega arith)
+seat_next (c ∷ cs) d (suc k) first h =
     let xs = map hand_view cs in
-    let inside : k < length cs = omega arith in
+    let line = seat_line (suc k) (get_or cs k d).marks 0 in
     let wide : length (take k xs) ≡ k = length-take k xs ∙ omega (arith, length-map cs hand_view) in
-    let here : (get_or xs k (hand_view d)).1 ≡ (get_or (c ∷ cs) (k + 1) d).marks = ap (λ (v : HandView). v.1) (get_or-map hand_view cs k d (hand_view d) inside) ∙ ap (λ n. (get_or (c ∷ cs) n d).marks) (sym (add-one k)) in
-    ap (λ l. bank_line c.marks ++ seat_lines 1 l) (take_more xs k (hand_view d) (omega (arith, length-map cs hand_view)))
+    let here : (get_or xs k (hand_view d)).1 ≡ (get_or cs k d).marks = ap (λ (v : HandView). v.1) (get_or-map hand_view cs k d (hand_view d) (omega arith)) in
+    ap (λ l. bank_line c.marks ++ seat_lines 1 l) (take-suc xs k (hand_view d) (omega (arith, length-map cs hand_view)))
     ∙ ap (λ l. bank_line c.marks ++ l) (seat_lines_push 1 (take k xs) (get_or xs k (hand_view d)))
     ∙ ap (λ n. bank_line c.marks ++ (seat_lines 1 (take k xs) ++ seat_line n (get_or xs k (hand_view d)).1 0)) (omega (arith, wide))
-    ∙ ap (λ m. bank_line c.marks ++ (seat_lines 1 (take k xs) ++ seat_line (k + 1) m 0)) here
-    ∙ sym (append_assoc (bank_line c.marks) (seat_lines 1 (take k xs)) (seat_line (k + 1) (get_or (c ∷ cs) (k + 1) d).marks 0))
+    ∙ ap (λ m. bank_line c.marks ++ (seat_lines 1 (take k xs) ++ seat_line (suc k) m 0)) here
+    ∙ sym (append_assoc (bank_line c.marks) (seat_lines 1 (take k xs)) line)
+    ∙ ap (λ n. listed n (map hand_view (c ∷ cs)) ++ line) (omega arith)
 
 fits : (z : ℤ) → negsuc 19999 ≤ℤ z → z ≤ℤ pos 1000000 → SFits w32 z
 fits (pos n) low high = record { sfits = omega (arith, ints) }

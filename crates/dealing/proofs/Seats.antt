@@ -1,5 +1,5 @@
 -- One seat more is dealt its opening cash.
-use Rattle.std.proofs.Common.{◌≡◌, ℕ, suc, ◌+◌, ◌-◌, ◌*◌, ◌<◌, ◌≤◌, true, List, [], ◌∷◌, ◌++◌, map, length, set, replicate, pos, ◌+ℤ◌, ◌-ℤ◌, Some, Ok, Result, sym, ap, ◌∙◌, le_trans, mul-le-mul_right, suc-mul, zero-mul, add-one, arith}
+use Rattle.std.proofs.Common.{◌≡◌, ℕ, zero, suc, ◌+◌, ◌-◌, ◌*◌, ◌<◌, ◌≤◌, true, List, [], ◌∷◌, ◌++◌, map, length, set, replicate, pos, ◌+ℤ◌, ◌-ℤ◌, Some, Ok, Result, sym, ap, ◌∙◌, le_trans, mul-le-mul_right, suc-mul, zero-mul, arith}
 use Rattle.std.proofs.lemmas.List.{map-set, length-map, length-append, length-replicate}
 use Rattle.std.proofs.lemmas.Int.{ints}
 use Rattle.std.specs.List.{slice_get}
@@ -100,13 +100,12 @@ seven bank k marks row h e =
     let c = length-replicate (6 - k) (seat_with 0) in
     sym (length-map row hand_view) ∙ ap length e ∙ omega (arith, a, b, c)
 
--- the carry to the next seat is granted
-pub seat_dealt : (bank players k marks load : ℕ) → players ≤ 6 → players * marks ≤ bank → marks < 65536 → k < players → load ≡ marks
-    → (row next : List Cash) (r : Result (Unit {0}) CarryFault) → map hand_view row ≡ dealt_row bank k marks → (r, next) ≡ carried cash row 0 (k + 1) load
-    → (r ≡ Ok tt) × (map hand_view next ≡ dealt_row bank (k + 1) marks)
-seat_dealt bank players k marks load seated enough small lt same row next r view e =
-    let le : suc k ≤ players = omega arith in
+-- the carry to a seat is granted
+pub seat_dealt : (bank players seat marks load : ℕ) → players ≤ 6 → players * marks ≤ bank → marks < 65536 → 1 ≤ seat → seat ≤ players → load ≡ marks
+    → (row next : List Cash) (r : Result (Unit {0}) CarryFault) → map hand_view row ≡ dealt_row bank (seat - 1) marks → (r, next) ≡ carried cash row 0 seat load
+    → (r ≡ Ok tt) × (map hand_view next ≡ dealt_row bank seat marks)
+seat_dealt bank players zero marks load seated enough small first le same row next r view e = absurd (omega arith)
+seat_dealt bank players (suc k) marks load seated enough small first le same row next r view e =
     let paid : suc k * marks ≤ bank = le_trans (mul-le-mul_right marks le) enough in
-    let f : (r, next) ≡ carried cash row 0 (suc k) marks = e ∙ ap (λ n. carried cash row 0 n load) (add-one k) ∙ ap (λ n. carried cash row 0 (suc k) n) same in
-    let d = one_more bank k marks (omega arith) paid small row view r next f in
-    (d.0, d.1 ∙ ap (λ n. dealt_row bank n marks) (sym (add-one k)))
+    let before : map hand_view row ≡ dealt_row bank k marks = view ∙ ap (λ n. dealt_row bank n marks) (omega arith) in
+    one_more bank k marks (omega arith) paid small row before r next (e ∙ ap (λ n. carried cash row 0 (suc k) n) same)

@@ -3,12 +3,11 @@ ghost use Rattle.dealing.specs.Opening.{hand_view, undealt_row, dealt_row, deali
 
 use crate::opening::Opening;
 use crate::refusal::OpeningRefusal;
+use catalogue::books::PrintedBook;
 use hands::carrying::carry;
 use hands::hand::Hand;
 use kinds::cash::Cash;
 use kinds::cash_floor::CashFloor;
-use printed::berg::Berg;
-use printed::north::North;
 use rulebook::book::RuleBook;
 
 fn undealt(bank: u16) -> [Cash; 7]
@@ -26,10 +25,8 @@ fn dealt_cash(bank: u16, players: u8, marks: u16) -> [Cash; 7]
     ensures { map hand_view result ≡ dealt_row bank players marks }
 {
     let mut row = undealt(bank);
-    for seat in 0..players {
-        if carry(&mut row, 0, seat as usize + 1, u32::from(marks)).is_err() {
-            unreachable()
-        }
+    for seat in 1..=players {
+        carry(&mut row, 0, usize::from(seat), u32::from(marks)).unwrap();
     }
     row
 }
@@ -38,9 +35,9 @@ fn dealt_cash(bank: u16, players: u8, marks: u16) -> [Cash; 7]
 pub fn deal<B: RuleBook>(book: &B, players: u8) -> Result<Opening, OpeningRefusal>
     ensures { viewed result ≡ dealing (B.meaning book.now) players }
 {
-    let Some(marks) = book.opening_cash(players) else {
-        return Err(OpeningRefusal::NoOpeningCash);
-    };
+    let marks = book
+        .opening_cash(players)
+        .ok_or(OpeningRefusal::NoOpeningCash)?;
     let cash = dealt_cash(book.bank_total(), players, marks);
     Ok(Opening { players, cash })
 }
@@ -49,11 +46,7 @@ pub fn deal<B: RuleBook>(book: &B, players: u8) -> Result<Opening, OpeningRefusa
 pub fn open_printed(book: u32, players: u32) -> Result<Opening, OpeningRefusal>
     ensures { viewed result ≡ opened book players }
 {
-    // No book has opening cash for so many.
-    let players = u8::try_from(players).unwrap_or(u8::MAX);
-    match book {
-        1 => deal(&North, players),
-        2 => deal(&Berg, players),
-        _ => Err(OpeningRefusal::UnknownBook),
-    }
+    // No book has so large a number, or opening cash for so many.
+    let book = PrintedBook::try_from(u8::try_from(book).unwrap_or(u8::MAX))?;
+    deal(&book, u8::try_from(players).unwrap_or(u8::MAX))
 }

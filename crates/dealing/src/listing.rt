@@ -14,8 +14,8 @@ impl Opening {
     {
         let mut text = Text::empty();
         text.push_bank_line(self.cash[0].marks());
-        for seat in 0..self.players {
-            text.push_seat_line(seat + 1, self.cash[seat as usize + 1].marks(), 0);
+        for seat in 1..=self.players {
+            text.push_seat_line(seat, self.cash[usize::from(seat)].marks(), 0);
         }
         text
     }
