@@ -3,7 +3,7 @@ ghost use Rattle.std.specs.Prelude.{◌≡◌};
 ghost use Rattle.game_trace.specs.Starts.{started_then};
 ghost use Rattle.game_trace.specs.Trace.{trace_of};
 
-use catalogue::books::printed_book;
+use catalogue::books::PrintedBook;
 use entries::record::Record;
 use faults::file::{FileFault, FileRefusal, at_place};
 use gamefile::reading::read;
@@ -34,7 +34,7 @@ pub(crate) fn start_game(file: &[u8]) -> Result<(Game, Record, usize), FileFault
     let Record::Open { book, players } = record else {
         return Err(at_start(FileRefusal::OpenMisplaced));
     };
-    let Some(book) = printed_book(book) else {
+    let Ok(book) = PrintedBook::try_from(book) else {
         return Err(at_start(FileRefusal::UnknownBook));
     };
     let (table, card) = at_place(0, Table::open(book, players))?;

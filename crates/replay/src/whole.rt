@@ -6,7 +6,7 @@ ghost use Rattle.replay.specs.Whole.{replayed};
 use crate::card::Card;
 use crate::game::{Game, Stopped};
 use crate::playing::play;
-use catalogue::books::printed_book;
+use catalogue::books::PrintedBook;
 use entries::record::Record;
 use faults::file::{FileFault, FileRefusal, at_place};
 use gamefile::reading::read;
@@ -36,7 +36,7 @@ fn open_game(file: &[u8]) -> Result<(Game, usize), FileFault>
     let Record::Open { book, players } = record else {
         return Err(at_start(FileRefusal::OpenMisplaced));
     };
-    let Some(book) = printed_book(book) else {
+    let Ok(book) = PrintedBook::try_from(book) else {
         return Err(at_start(FileRefusal::UnknownBook));
     };
     let (table, card) = at_place(0, Table::open(book, players))?;
