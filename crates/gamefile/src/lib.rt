@@ -1,5 +1,6 @@
-// Reading the record at a place of a game file, and writing a record into a lent buffer.
+// Reading the records of a game file, one by one or all of them, and writing a record into a lent buffer.
 #![tactic(auto)]
 
 pub mod reading;
+pub mod records;
 pub mod writing;

@@ -5,24 +5,17 @@ ghost use Rattle.listing.specs.Listing.{lines, listing_of};
 
 use crate::lines::{push_fault, push_record};
 use faults::file::{FileFault, FileRefusal};
-use gamefile::reading::read;
+use gamefile::records::{LONGEST, records_from};
 use std::alloc::{AllocError, Global};
-
-// No game file is longer.
-const LONGEST: usize = 65_536;
 
 // A line for each record of a file of lawful length, and for the fault that ends the reading, if there is one.
 fn push_file(text: &mut String, file: &[u8]) -> Result<(), AllocError>
     ensures { OnOk result (string_bytes text.new ≡ string_bytes text.old ++ lines (reading file.now)) }
 {
-    let mut place = 0;
-    while place < file.len() {
-        match read(file, place) {
-            Ok((record, next)) => {
-                push_record(text, place, record)?;
-                place = next;
-            }
-            Err(fault) => return push_fault(text, fault),
+    for found in records_from(file, 0) {
+        match found {
+            Ok((place, record)) => push_record(text, place, record)?,
+            Err(fault) => push_fault(text, fault)?,
         }
     }
     Ok(())
