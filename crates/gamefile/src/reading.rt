@@ -1,4 +1,4 @@
-ghost use Rattle.std.specs.Prelude.{◌≡◌, ◌+◌, ◌*◌, ◌<◌, ◌≤◌, length, IfOk, slice_index};
+ghost use Rattle.std.specs.Prelude.{◌≡◌, ◌+◌, ◌*◌, ◌<◌, ◌≤◌, length, drop, IfOk, slice_index};
 ghost use Rattle.entries.specs.Laws.{SingleRecords};
 ghost use Rattle.entries.specs.Reading.{pair, stock_entry, operating_entry, known, first, read_at, seen, seen_one};
 
@@ -9,7 +9,7 @@ use faults::file::{FileFault, FileRefusal};
 fn byte_at(bytes: &[u8], i: usize) -> u8
     ensures { result ≡ slice_index bytes.now i }
 {
-    if i < bytes.len() { bytes[i] } else { 0 }
+    bytes.get(i).copied().unwrap_or(0)
 }
 
 // The field of two bytes at an index, high byte first.
@@ -17,7 +17,7 @@ fn pair_at(bytes: &[u8], i: usize) -> u16
     requires { i < 8 }
     ensures { result ≡ pair bytes.now i }
 {
-    u16::from(byte_at(bytes, i)) * 256 + u16::from(byte_at(bytes, i + 1))
+    u16::from_be_bytes([byte_at(bytes, i), byte_at(bytes, i + 1)])
 }
 
 // The record that the kind byte asks for, from the bytes after it: open and the calls of a stock round.
@@ -74,13 +74,11 @@ fn operating_record(bytes: &[u8]) -> Option<Record>
     }
 }
 
+// The two halves together would be longer than a function may be.
 fn known_record(bytes: &[u8]) -> Option<Record>
     ensures { seen_one result ≡ known bytes.now }
 {
-    match stock_record(bytes) {
-        Some(record) => Some(record),
-        None => operating_record(bytes),
-    }
+    stock_record(bytes).or_else(|| operating_record(bytes))
 }
 
 // The record that the bytes begin with, and how many of them are its own.
@@ -91,14 +89,19 @@ fn first_record(bytes: &[u8]) -> Result<(Record, usize), FileRefusal>
     if bytes.is_empty() {
         return Err(FileRefusal::CutBody);
     }
-    let Some(record) = known_record(bytes) else {
-        return Err(FileRefusal::UnknownKind);
-    };
+    let record = known_record(bytes).ok_or(FileRefusal::UnknownKind)?;
     let size = record.size();
     if bytes.len() < size {
         return Err(FileRefusal::CutBody);
     }
     Ok((record, size))
+}
+
+// The bytes from a place on, and none past the end.
+fn bytes_from(file: &[u8], place: usize) -> &[u8]
+    ensures { result.now ≡ drop place file.now }
+{
+    file.get(place..).unwrap_or(&[])
 }
 
 // Reads the record at a place, and answers it with the place after it.
@@ -107,14 +110,7 @@ pub fn read(file: &[u8], place: usize) -> Result<(Record, usize), FileFault>
     ensures within { IfOk result (λ x. (place < x.1) × (x.1 ≤ length file.now)) }
     ensures laws { SingleRecords }
 {
-    if place >= file.len() {
-        return Err(FileFault {
-            refusal: FileRefusal::CutBody,
-            place,
-        });
-    }
-    match first_record(&file[place..file.len()]) {
-        Ok((record, size)) => Ok((record, place + size)),
-        Err(refusal) => Err(FileFault { refusal, place }),
-    }
+    let bytes = bytes_from(file, place);
+    let (record, size) = first_record(bytes).map_err(|refusal| FileFault { refusal, place })?;
+    Ok((record, place + size))
 }

@@ -1,21 +1,9 @@
-ghost use Rattle.std.specs.Prelude.{◌≡◌, ◌/◌, ◌%◌};
+ghost use Rattle.std.specs.Prelude.{◌≡◌};
 ghost use Rattle.entries.specs.Entry.{view};
 ghost use Rattle.entries.specs.Writing.{put, written};
 
 use entries::record::Record;
 use faults::file::{FileFault, FileRefusal};
-
-fn high(n: u16) -> u8
-    ensures { result ≡ n / 256 }
-{
-    (n / 256) as u8
-}
-
-fn low(n: u16) -> u8
-    ensures { result ≡ n % 256 }
-{
-    (n % 256) as u8
-}
 
 // Puts bytes at the front of a buffer, or leaves it as it was if they do not fit.
 fn put_front(bytes: &[u8], out: &mut [u8]) -> Result<usize, FileFault>
@@ -28,7 +16,7 @@ fn put_front(bytes: &[u8], out: &mut [u8]) -> Result<usize, FileFault>
             place: 0,
         });
     }
-    out[0..count].copy_from_slice(bytes);
+    out[..count].copy_from_slice(bytes);
     Ok(count)
 }
 
@@ -52,13 +40,17 @@ pub fn write(record: Record, out: &mut [u8]) -> Result<usize, FileFault>
         Record::End { seat } => put_front(&[4, seat], out),
         Record::Close => put_front(&[5], out),
         Record::Bill { company, amount } => {
-            put_front(&[6, company, high(amount), low(amount)], out)
+            let [high, low] = amount.to_be_bytes();
+            put_front(&[6, company, high, low], out)
         }
         Record::Payout {
             company,
             mode,
             revenue,
-        } => put_front(&[7, company, mode, high(revenue), low(revenue)], out),
+        } => {
+            let [high, low] = revenue.to_be_bytes();
+            put_front(&[7, company, mode, high, low], out)
+        }
         Record::Train { company, kind } => put_front(&[8, company, kind], out),
         Record::Done { company } => put_front(&[9, company], out),
         Record::Reopen => put_front(&[10], out),
