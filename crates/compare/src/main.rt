@@ -63,7 +63,7 @@ fn show_cash_row(rt: &HostRuntime, one: &Books, other: &Books, companies: u8) ->
         show_cash(rt, "seat", before + 1, one, other, place)?;
     }
     for before in 0..companies {
-        let place = one.players as usize + before as usize + 1;
+        let place = one.treasury(before + 1);
         show_cash(rt, "company", before + 1, one, other, place)?;
     }
     Ok(())

@@ -14,14 +14,16 @@ use Rattle.ledger.proofs.Crossed.{all_same_players}
 
 -- SALE: the certificates are chosen after the exchange
 
-pub sale_order : (b : Book) (s t : Books) (seat company tenths marks bits : ℕ) → marks ≡ tenths * price_of b s company
+pub sale_order : (b : Book) (s t : Books) (seat company tenths payee marks giver bits : ℕ) → payee ≡ seat → marks ≡ tenths * price_of b s company → giver ≡ seat_papers seat
     → t ≡ all_crossed s (sell_exchange s seat company tenths)
     → bits ≡ lowest_ordinary tenths (papers_at t company (seat_papers seat)).certificates
-    → sell_exchange s seat company tenths ++ (pays bank seat marks ∷ (hands company (seat_papers seat) pool bits ∷ [])) ≡ sell_crossings b s seat company tenths
-sale_order b s t seat company tenths marks bits is exchanged chosen =
+    → sell_exchange s seat company tenths ++ (pays bank payee marks ∷ (hands company giver pool bits ∷ [])) ≡ sell_crossings b s seat company tenths
+sale_order b s t seat company tenths payee marks giver bits to is from exchanged chosen =
     let first = sell_exchange s seat company tenths in
     let taken : bits ≡ lowest_ordinary tenths (papers_at (all_crossed s first) company (seat_papers seat)).certificates = chosen ∙ ap (λ (z : Books). lowest_ordinary tenths (papers_at z company (seat_papers seat)).certificates) exchanged in
-    ap (λ n. first ++ (pays bank seat n ∷ (hands company (seat_papers seat) pool bits ∷ []))) is
+    ap (λ n. first ++ (pays bank n marks ∷ (hands company giver pool bits ∷ []))) to
+    ∙ ap (λ n. first ++ (pays bank seat marks ∷ (hands company n pool bits ∷ []))) from
+    ∙ ap (λ n. first ++ (pays bank seat n ∷ (hands company (seat_papers seat) pool bits ∷ []))) is
     ∙ ap (λ n. first ++ (pays bank seat (tenths * price_of b s company) ∷ (hands company (seat_papers seat) pool n ∷ []))) taken
 
 -- PURCHASE: the exchange is judged after the certificate has moved
@@ -67,17 +69,19 @@ dividend_order s t company d k marks same is =
     ∙ sym (one_seat_more s company d 1 k)
     ∙ ap (dividends s company d 1) (sym (add-one k))
 
-pub payout_order : (s : Books) (company kept : ℕ) (split : Split) (which : Option Split) → which ≡ Some split → kept ≡ company_share s company split
-    → dividends s company split.dividend 1 s.players ++ (pays bank (treasury s company) kept ∷ []) ≡ payout_crossings s company which
-payout_order s company kept split which e is =
-    ap (λ n. dividends s company split.dividend 1 s.players ++ (pays bank (treasury s company) n ∷ [])) is
+pub payout_order : (s : Books) (company payee kept : ℕ) (split : Split) (which : Option Split) → which ≡ Some split → payee ≡ treasury s company → kept ≡ company_share s company split
+    → dividends s company split.dividend 1 s.players ++ (pays bank payee kept ∷ []) ≡ payout_crossings s company which
+payout_order s company payee kept split which e to is =
+    ap (λ n. dividends s company split.dividend 1 s.players ++ (pays bank n kept ∷ [])) to
+    ∙ ap (λ n. dividends s company split.dividend 1 s.players ++ (pays bank (treasury s company) n ∷ [])) is
     ∙ ap (payout_crossings s company) (sym e)
 
 -- TRAIN: help, if any, then the price, then the train
 
-pub train_order : (b : Book) (s : Books) (company kind price marks : ℕ) → price ≡ b.train_price kind → marks ≡ price
-    → help s company price (director s company) ++ (pays (treasury s company) bank marks ∷ (moves stack company (record { kind = kind; count = 1 }) ∷ [])) ≡ train_crossings b s company kind
-train_order b s company kind price marks is same =
+pub train_order : (b : Book) (s : Books) (company kind price payer marks : ℕ) → price ≡ b.train_price kind → payer ≡ treasury s company → marks ≡ price
+    → help s company price (director s company) ++ (pays payer bank marks ∷ (moves stack company (record { kind = kind; count = 1 }) ∷ [])) ≡ train_crossings b s company kind
+train_order b s company kind price payer marks is from same =
     let after : ℕ → List Crossing = λ n. pays (treasury s company) bank n ∷ (moves stack company (record { kind = kind; count = 1 }) ∷ []) in
-    ap (λ n. help s company price (director s company) ++ after n) (same ∙ is)
+    ap (λ n. help s company price (director s company) ++ (pays n bank marks ∷ (moves stack company (record { kind = kind; count = 1 }) ∷ []))) from
+    ∙ ap (λ n. help s company price (director s company) ++ after n) (same ∙ is)
     ∙ ap (λ n. help s company n (director s company) ++ after (b.train_price kind)) is

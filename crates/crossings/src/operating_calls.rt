@@ -16,7 +16,7 @@ use std::alloc::AllocError;
 pub(crate) fn try_bill(trial: &mut Trial, company: u8, amount: u16) -> Result<(), AllocError>
     ensures { OnOk result (Noted trial.old trial.new (bill_crossings trial.old.books company amount)) }
 {
-    let treasury = trial.books.players as usize + company as usize;
+    let treasury = trial.books.treasury(company);
     trial.pay(treasury, 0, u32::from(amount))
 }
 
@@ -41,7 +41,7 @@ pub(crate) fn try_payout(
         return Ok(());
     };
     let kept = share_of_company(&trial.books, company, split);
-    let treasury = trial.books.players as usize + company as usize;
+    let treasury = trial.books.treasury(company);
     pay_dividends(trial, company, split.dividend)?;
     trial.pay(0, treasury, kept)
 }
@@ -52,8 +52,8 @@ fn get_help(trial: &mut Trial, company: u8, price: u16) -> Result<(), AllocError
     match director_of(&trial.books, company) {
         Some(seat) if is_helped(&trial.books, company, price) => {
             let marks = missing_marks(&trial.books, company, price);
-            let treasury = trial.books.players as usize + company as usize;
-            trial.pay(seat as usize, treasury, marks)
+            let treasury = trial.books.treasury(company);
+            trial.pay(usize::from(seat), treasury, marks)
         }
         _ => Ok(()),
     }
@@ -68,7 +68,7 @@ pub(crate) fn try_train<B: RuleBook>(
     ensures { OnOk result (Noted trial.old trial.new (train_crossings (B.meaning book.now) trial.old.books company kind)) }
 {
     let price = book.train_price(kind);
-    let treasury = trial.books.players as usize + company as usize;
+    let treasury = trial.books.treasury(company);
     get_help(trial, company, price)?;
     trial.pay(treasury, 0, u32::from(price))?;
     trial.move_trains(0, company as usize, TrainLoad { kind, count: 1 })

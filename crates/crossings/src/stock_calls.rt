@@ -7,10 +7,11 @@ ghost use Rattle.crossings.specs.Noted.{Noted};
 
 use crate::trial::Trial;
 use holdings::{director_of, largest_other_of, seat_tenths};
-use judging::sale::{loses_lead, sale_marks};
+use judging::sale::Sale;
 use kinds::certificate_set::CertificateSet;
 use ledger::certificates::lowest;
-use purchasing::{cost_of, float_payment, is_floating, payee_of, source_set_of};
+use ledger::reading::seat_papers;
+use purchasing::Purchase;
 use rulebook::book::RuleBook;
 use std::alloc::AllocError;
 
@@ -18,23 +19,18 @@ use std::alloc::AllocError;
 fn exchange_director(trial: &mut Trial, company: u8, new: u8, old: u8) -> Result<(), AllocError>
     ensures { OnOk result (Noted trial.old trial.new (exchange trial.old.books company new old)) }
 {
-    let (new, old) = (new as usize + 1, old as usize + 1);
+    let (new, old) = (seat_papers(new), seat_papers(old));
     let two = lowest(trial.books.papers(company, new).certificates(), 2, 0);
     trial.hand_over(company, new, old, two)?;
     trial.hand_over(company, old, new, CertificateSet { bits: 1 })
 }
 
-fn exchange_before_sale(
-    trial: &mut Trial,
-    seat: u8,
-    company: u8,
-    tenths: u8,
-) -> Result<(), AllocError>
-    ensures { OnOk result (Noted trial.old trial.new (sell_exchange trial.old.books seat company tenths)) }
+fn exchange_before_sale(trial: &mut Trial, sale: Sale) -> Result<(), AllocError>
+    ensures { OnOk result (Noted trial.old trial.new (sell_exchange trial.old.books sale.seat sale.company sale.tenths)) }
 {
-    if loses_lead(&trial.books, seat, company, tenths) {
-        let new = largest_other_of(&trial.books, company, seat);
-        return exchange_director(trial, company, new, seat);
+    if sale.loses_lead(&trial.books) {
+        let new = largest_other_of(&trial.books, sale.company, sale.seat);
+        return exchange_director(trial, sale.company, new, sale.seat);
     }
     Ok(())
 }
@@ -42,37 +38,38 @@ fn exchange_before_sale(
 pub(crate) fn try_sale<B: RuleBook>(
     trial: &mut Trial,
     book: &B,
-    seat: u8,
-    company: u8,
-    tenths: u8,
+    sale: Sale,
 ) -> Result<(), AllocError>
-    ensures { OnOk result (Noted trial.old trial.new (sell_crossings (B.meaning book.now) trial.old.books seat company tenths)) }
+    ensures { OnOk result (Noted trial.old trial.new (sell_crossings (B.meaning book.now) trial.old.books sale.seat sale.company sale.tenths)) }
 {
-    let marks = sale_marks(book, &trial.books, company, tenths);
-    exchange_before_sale(trial, seat, company, tenths)?;
+    let Sale {
+        seat,
+        company,
+        tenths,
+    } = sale;
+    let marks = sale.marks(book, &trial.books);
+    exchange_before_sale(trial, sale)?;
     let held = trial
         .books
-        .papers(company, seat as usize + 1)
+        .papers(company, seat_papers(seat))
         .certificates();
-    trial.pay(0, seat as usize, marks)?;
-    trial.hand_over(company, seat as usize + 1, 1, lowest(held, tenths, 1))
+    trial.pay(0, usize::from(seat), marks)?;
+    trial.hand_over(company, seat_papers(seat), 1, lowest(held, tenths, 1))
 }
 
 fn pay_and_receive<B: RuleBook>(
     trial: &mut Trial,
     book: &B,
-    seat: u8,
-    company: u8,
-    source: u8,
-    space: u16,
+    asked: Purchase,
 ) -> Result<(), AllocError>
-    ensures { OnOk result (Noted trial.old trial.new (purchase (B.meaning book.now) trial.old.books seat company source space)) }
+    ensures { OnOk result (Noted trial.old trial.new (purchase (B.meaning book.now) trial.old.books asked.seat asked.company asked.source asked.space)) }
 {
-    let marks = cost_of(book, &trial.books, company, source, space);
-    let payee = payee_of(book, &trial.books, company, source);
-    let load = lowest(source_set_of(&trial.books, company, source), 1, 0);
-    trial.pay(seat as usize, payee, marks)?;
-    trial.hand_over(company, source as usize, seat as usize + 1, load)
+    let marks = asked.cost(book, &trial.books);
+    let payee = asked.payee(book, &trial.books);
+    let load = lowest(asked.source_set(&trial.books), 1, 0);
+    let (giver, receiver) = (usize::from(asked.source), seat_papers(asked.seat));
+    trial.pay(usize::from(asked.seat), payee, marks)?;
+    trial.hand_over(asked.company, giver, receiver, load)
 }
 
 fn overtake(trial: &mut Trial, seat: u8, company: u8) -> Result<(), AllocError>
@@ -93,7 +90,7 @@ fn pay_float(trial: &mut Trial, company: u8, floating: bool, money: u32) -> Resu
     ensures { OnOk result (Noted trial.old trial.new (if floating then pays bank (treasury trial.old.books company) money ∷ [] else [])) }
 {
     if floating {
-        let treasury = trial.books.players as usize + company as usize;
+        let treasury = trial.books.treasury(company);
         return trial.pay(0, treasury, money);
     }
     Ok(())
@@ -102,16 +99,13 @@ fn pay_float(trial: &mut Trial, company: u8, floating: bool, money: u32) -> Resu
 pub(crate) fn try_purchase<B: RuleBook>(
     trial: &mut Trial,
     book: &B,
-    seat: u8,
-    company: u8,
-    source: u8,
-    space: u16,
+    asked: Purchase,
 ) -> Result<(), AllocError>
-    ensures { OnOk result (Noted trial.old trial.new (buy_crossings (B.meaning book.now) trial.old.books seat company source space)) }
+    ensures { OnOk result (Noted trial.old trial.new (buy_crossings (B.meaning book.now) trial.old.books asked.seat asked.company asked.source asked.space)) }
 {
-    let floating = is_floating(book, &trial.books, company, source);
-    let money = float_payment(book, &trial.books, company, source, space);
-    pay_and_receive(trial, book, seat, company, source, space)?;
-    overtake(trial, seat, company)?;
-    pay_float(trial, company, floating, money)
+    let floating = asked.is_floating(book, &trial.books);
+    let money = asked.float_payment(book, &trial.books);
+    pay_and_receive(trial, book, asked)?;
+    overtake(trial, asked.seat, asked.company)?;
+    pay_float(trial, asked.company, floating, money)
 }

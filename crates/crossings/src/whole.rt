@@ -9,13 +9,13 @@ use crate::stock_calls::{try_purchase, try_sale};
 use crate::trial::Trial;
 use faults::table::TableRefusal;
 use judging::rounds::{judge_close, judge_reopen, on_stock_turn};
-use judging::sale::judge_sell;
+use judging::sale::Sale;
 use ledger::books::Books;
 use ledger::call::Call;
 use operating::payout::judge_payout;
 use operating::train::judge_train;
 use operating::turn::{judge_bill, judge_done};
-use purchasing::judge_buy;
+use purchasing::Purchase;
 use rulebook::book::RuleBook;
 use std::alloc::{AllocError, Global};
 
@@ -29,14 +29,25 @@ pub fn answer_to<B: RuleBook>(book: &B, books: &Books, call: Call) -> Result<(),
             seat,
             company,
             tenths,
-        } => judge_sell(book, books, card, seat, company, tenths),
+        } => Sale {
+            seat,
+            company,
+            tenths,
+        }
+        .judge(book, books, card),
         Call::Buy {
             card,
             seat,
             company,
             source,
             par,
-        } => judge_buy(book, books, card, seat, company, source, par),
+        } => Purchase {
+            seat,
+            company,
+            source,
+            space: par,
+        }
+        .judge(book, books, card),
         Call::End { card, seat } => on_stock_turn(books, card, seat),
         Call::Close { card } => judge_close(books, card),
         Call::Bill {
@@ -70,14 +81,31 @@ fn try_call<B: RuleBook>(trial: &mut Trial, book: &B, call: Call) -> Result<(), 
             company,
             tenths,
             ..
-        } => try_sale(trial, book, seat, company, tenths),
+        } => try_sale(
+            trial,
+            book,
+            Sale {
+                seat,
+                company,
+                tenths,
+            },
+        ),
         Call::Buy {
             seat,
             company,
             source,
             par,
             ..
-        } => try_purchase(trial, book, seat, company, source, par),
+        } => try_purchase(
+            trial,
+            book,
+            Purchase {
+                seat,
+                company,
+                source,
+                space: par,
+            },
+        ),
         Call::Bill {
             company,
             amount,

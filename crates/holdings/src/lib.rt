@@ -5,6 +5,7 @@ ghost use Rattle.std.specs.Prelude.{◌≡◌};
 ghost use Rattle.ledger.specs.Holdings.{next_seat, holds_director, seat_tenths, director, largest_other, certificates_held, lowest_kind, has_train, waiting, price_of, better, next_company};
 
 use ledger::books::Books;
+use ledger::reading::seat_papers;
 use rulebook::book::RuleBook;
 
 pub fn next_seat(books: &Books, seat: u8) -> u8
@@ -16,7 +17,7 @@ pub fn next_seat(books: &Books, seat: u8) -> u8
 pub fn seat_tenths(books: &Books, company: u8, seat: u8) -> u32
     ensures { result ≡ seat_tenths books.now company seat }
 {
-    books.tenths(company, seat as usize + 1)
+    books.tenths(company, seat_papers(seat))
 }
 
 pub fn holds_director(books: &Books, company: u8, place: usize) -> bool

@@ -6,8 +6,12 @@ ghost use Rattle.ledger.specs.Stock.{close_answer};
 ghost use Rattle.ledger.specs.Operating.{reopen_answer};
 
 use faults::table::TableRefusal;
+use kinds::cash_floor::CashFloor;
 use ledger::books::Books;
 use rulebook::book::RuleBook;
+
+// The last stock round.
+const LAST_ROUND: u16 = 9_999;
 
 fn is_stock_card(books: &Books, card: u16) -> bool
     ensures { result ≡ stock_card books.now card }
@@ -24,14 +28,21 @@ fn is_operating_card(books: &Books, card: u16) -> bool
 pub fn is_company_of<B: RuleBook>(book: &B, company: u8) -> bool
     ensures { result ≡ is_company (B.meaning book.now) company }
 {
-    company >= 1 && company <= book.companies()
+    (1..=book.companies()).contains(&company)
+}
+
+// Do so many marks lie below the bank's floor?
+pub fn is_below_floor(marks: i64) -> bool
+    ensures { result ≡ below_floor marks }
+{
+    marks < i64::from(CashFloor::Overdraft.marks())
 }
 
 // Would the bank, giving so much, fall below its floor?
 pub fn bank_cannot_give(books: &Books, marks: u32) -> bool
     ensures { result ≡ below_floor (marks_at books.now bank -ℤ pos marks) }
 {
-    i64::from(books.marks(0)) - i64::from(marks) < -20_000
+    is_below_floor(i64::from(books.marks(0)) - i64::from(marks))
 }
 
 pub fn on_stock_turn(books: &Books, card: u16, seat: u8) -> Result<(), TableRefusal>
@@ -43,7 +54,7 @@ pub fn on_stock_turn(books: &Books, card: u16, seat: u8) -> Result<(), TableRefu
     if books.stock.passes >= books.players {
         return Err(TableRefusal::RoundOver);
     }
-    if seat < 1 || seat > books.players {
+    if !(1..=books.players).contains(&seat) {
         return Err(TableRefusal::NoSuchSeat);
     }
     if seat != books.stock.turn {
@@ -58,10 +69,10 @@ pub fn on_operating_turn(books: &Books, card: u16, company: u8) -> Result<(), Ta
     if !is_operating_card(books, card) {
         return Err(TableRefusal::WrongCard);
     }
-    match books.operating.company {
-        Some(on_turn) if on_turn == company => Ok(()),
-        _ => Err(TableRefusal::CompanyNotOnTurn),
+    if books.operating.company != Some(company) {
+        return Err(TableRefusal::CompanyNotOnTurn);
     }
+    Ok(())
 }
 
 pub fn judge_close(books: &Books, card: u16) -> Result<(), TableRefusal>
@@ -73,7 +84,7 @@ pub fn judge_close(books: &Books, card: u16) -> Result<(), TableRefusal>
     if books.stock.passes < books.players {
         return Err(TableRefusal::RoundNotOver);
     }
-    if books.round == 9_999 {
+    if books.round == LAST_ROUND {
         return Err(TableRefusal::LastRound);
     }
     Ok(())
@@ -85,8 +96,8 @@ pub fn judge_reopen(books: &Books, card: u16) -> Result<(), TableRefusal>
     if !is_operating_card(books, card) {
         return Err(TableRefusal::WrongCard);
     }
-    match books.operating.company {
-        Some(_) => Err(TableRefusal::CompanyOnTurn),
-        None => Ok(()),
+    if books.operating.company.is_some() {
+        return Err(TableRefusal::CompanyOnTurn);
     }
+    Ok(())
 }

@@ -7,65 +7,81 @@ use crate::rounds::{bank_cannot_give, is_company_of, on_stock_turn};
 use faults::table::TableRefusal;
 use holdings::{holds_director, largest_other_of, price_now, seat_tenths};
 use ledger::books::Books;
+use ledger::reading::seat_papers;
 use rulebook::book::RuleBook;
 
-fn can_sell(books: &Books, seat: u8, company: u8, tenths: u8) -> bool
-    ensures { not result ≡ (tenths == 0 || nat_lt (seat_tenths books.now company seat) tenths) }
-{
-    tenths > 0 && u32::from(tenths) <= seat_tenths(books, company, seat)
+// A sale that a seat asks for.
+#[derive(Clone, Copy, PartialEq, Eq, Debug)]
+pub struct Sale {
+    pub seat: u8,
+    pub company: u8,
+    pub tenths: u8,
 }
 
-// What a sale brings, at the price before the step.
-pub fn sale_marks<B: RuleBook>(book: &B, books: &Books, company: u8, tenths: u8) -> u32
-    ensures { result ≡ tenths * price_of (B.meaning book.now) books.now company }
-{
-    u32::from(tenths) * u32::from(price_now(book, books, company))
-}
+impl Sale {
+    fn holds_tenths(self, books: &Books) -> bool
+        ensures { not result ≡ (self.tenths == 0 || nat_lt (seat_tenths books.now self.company self.seat) self.tenths) }
+    {
+        self.tenths > 0 && u32::from(self.tenths) <= seat_tenths(books, self.company, self.seat)
+    }
 
-fn needs_director(books: &Books, seat: u8, company: u8, tenths: u8) -> bool
-    ensures { result ≡ director_needed books.now seat company tenths }
-{
-    holds_director(books, company, seat as usize + 1)
-        && seat_tenths(books, company, seat).saturating_sub(u32::from(tenths)) < 2
-        && seat_tenths(books, company, largest_other_of(books, company, seat)) < 2
-}
+    // What it brings, at the price before the step.
+    pub fn marks<B: RuleBook>(self, book: &B, books: &Books) -> u32
+        ensures { result ≡ self.tenths * price_of (B.meaning book.now) books.now self.company }
+    {
+        u32::from(self.tenths) * u32::from(price_now(book, books, self.company))
+    }
 
-pub fn loses_lead(books: &Books, seat: u8, company: u8, tenths: u8) -> bool
-    ensures { result ≡ another_leads books.now seat company tenths }
-{
-    holds_director(books, company, seat as usize + 1)
-        && seat_tenths(books, company, seat).saturating_sub(u32::from(tenths))
-            < seat_tenths(books, company, largest_other_of(books, company, seat))
-}
+    fn needs_director(self, books: &Books) -> bool
+        ensures { result ≡ director_needed books.now self.seat self.company self.tenths }
+    {
+        let Sale {
+            seat,
+            company,
+            tenths,
+        } = self;
+        holds_director(books, company, seat_papers(seat))
+            && seat_tenths(books, company, seat).saturating_sub(u32::from(tenths)) < 2
+            && seat_tenths(books, company, largest_other_of(books, company, seat)) < 2
+    }
 
-pub fn judge_sell<B: RuleBook>(
-    book: &B,
-    books: &Books,
-    card: u16,
-    seat: u8,
-    company: u8,
-    tenths: u8,
-) -> Result<(), TableRefusal>
-    ensures { result ≡ sell_answer (B.meaning book.now) books.now card seat company tenths }
-{
-    on_stock_turn(books, card, seat)?;
-    if !is_company_of(book, company) {
-        return Err(TableRefusal::NoSuchCompany);
+    pub fn loses_lead(self, books: &Books) -> bool
+        ensures { result ≡ another_leads books.now self.seat self.company self.tenths }
+    {
+        let Sale {
+            seat,
+            company,
+            tenths,
+        } = self;
+        holds_director(books, company, seat_papers(seat))
+            && seat_tenths(books, company, seat).saturating_sub(u32::from(tenths))
+                < seat_tenths(books, company, largest_other_of(books, company, seat))
     }
-    if books.stock.bought {
-        return Err(TableRefusal::AlreadyBought);
+
+    pub fn judge<B: RuleBook>(self, book: &B, books: &Books, card: u16) -> Result<(), TableRefusal>
+        ensures { result ≡ sell_answer (B.meaning book.now) books.now card self.seat self.company self.tenths }
+    {
+        on_stock_turn(books, card, self.seat)?;
+        if !is_company_of(book, self.company) {
+            return Err(TableRefusal::NoSuchCompany);
+        }
+        if books.stock.bought {
+            return Err(TableRefusal::AlreadyBought);
+        }
+        if !self.holds_tenths(books) {
+            return Err(TableRefusal::TenthsNotHeld);
+        }
+        if u64::from(books.tenths(self.company, 1)) + u64::from(self.tenths)
+            > u64::from(book.pool_limit())
+        {
+            return Err(TableRefusal::PoolLimit);
+        }
+        if self.needs_director(books) {
+            return Err(TableRefusal::DirectorNeeded);
+        }
+        if bank_cannot_give(books, self.marks(book, books)) {
+            return Err(TableRefusal::BankFloor);
+        }
+        Ok(())
     }
-    if !can_sell(books, seat, company, tenths) {
-        return Err(TableRefusal::TenthsNotHeld);
-    }
-    if u64::from(books.tenths(company, 1)) + u64::from(tenths) > u64::from(book.pool_limit()) {
-        return Err(TableRefusal::PoolLimit);
-    }
-    if needs_director(books, seat, company, tenths) {
-        return Err(TableRefusal::DirectorNeeded);
-    }
-    if bank_cannot_give(books, sale_marks(book, books, company, tenths)) {
-        return Err(TableRefusal::BankFloor);
-    }
-    Ok(())
 }

@@ -1,6 +1,6 @@
 ghost use Rattle.std.specs.Prelude.{◌≡◌, ◌+◌, ◌-◌, get_or, slice_index, slice_index_or};
 ghost use Rattle.kinds.specs.Papers.{no_papers};
-ghost use Rattle.ledger.specs.Holdings.{no_cash, no_trains, marks_at, company_of, papers_at, trains_held, tenths_at, holds_director};
+ghost use Rattle.ledger.specs.Holdings.{no_cash, no_trains, treasury, seat_papers, marks_at, company_of, papers_at, trains_held, tenths_at, holds_director};
 
 use crate::books::Books;
 use crate::company::Company;
@@ -49,10 +49,24 @@ fn round_in(row: &[u16], place: usize) -> u16
 pub fn slot(company: u8) -> usize
     ensures { result ≡ company - 1 }
 {
-    (company as usize).saturating_sub(1)
+    usize::from(company).saturating_sub(1)
+}
+
+// Where a seat stands in a company's row: after the offering and the pool.
+pub fn seat_papers(seat: u8) -> usize
+    ensures { result ≡ seat_papers seat }
+{
+    usize::from(seat) + 1
 }
 
 impl Books {
+    // Where a company's cash stands: after the bank and the seats.
+    pub fn treasury(&self, company: u8) -> usize
+        ensures { result ≡ treasury self.now company }
+    {
+        usize::from(self.players) + usize::from(company)
+    }
+
     // Marks at a place of the cash row.
     pub fn marks(&self, place: usize) -> i32
         ensures { result ≡ marks_at self.now place }

@@ -16,7 +16,7 @@ use rulebook::book::RuleBook;
 fn treasury_marks(books: &Books, company: u8) -> i32
     ensures { result ≡ marks_at books.now (treasury books.now company) }
 {
-    books.marks(books.players as usize + company as usize)
+    books.marks(books.treasury(company))
 }
 
 // What the company lacks of a price.
@@ -45,12 +45,12 @@ fn is_lowest(books: &Books, kind: u8) -> bool
 fn can_afford(books: &Books, company: u8, price: u16) -> Result<(), TableRefusal>
     ensures { result ≡ by_carry (crossing_outcome books.now (first_payment books.now company price (director books.now company))).0 }
 {
-    let treasury = books.players as usize + company as usize;
+    let treasury = books.treasury(company);
     match director_of(books, company) {
         Some(seat) if is_helped(books, company, price) => {
             can_carry(
                 &books.cash,
-                seat as usize,
+                usize::from(seat),
                 treasury,
                 missing_marks(books, company, price),
             )?;

@@ -21,12 +21,7 @@ pub fn judge_bill(books: &Books, card: u16, company: u8, amount: u16) -> Result<
     if amount == 0 || amount > 1_000 {
         return Err(TableRefusal::AmountOutOfRange);
     }
-    can_carry(
-        &books.cash,
-        books.players as usize + company as usize,
-        0,
-        u32::from(amount),
-    )?;
+    can_carry(&books.cash, books.treasury(company), 0, u32::from(amount))?;
     Ok(())
 }
 
@@ -34,7 +29,7 @@ fn marks_of_director(books: &Books, company: u8) -> i32
     ensures { result ≡ director_marks books.now (director books.now company) }
 {
     match director_of(books, company) {
-        Some(seat) => books.marks(seat as usize),
+        Some(seat) => books.marks(usize::from(seat)),
         None => 0,
     }
 }
@@ -52,7 +47,7 @@ fn reaches_train<B: RuleBook>(book: &B, books: &Books, company: u8) -> bool
 fn reaches_kind<B: RuleBook>(book: &B, books: &Books, company: u8, kind: u8) -> bool
     ensures { result ≡ can_reach (B.meaning book.now) books.now company (Some kind) }
 {
-    let treasury = books.players as usize + company as usize;
+    let treasury = books.treasury(company);
     i64::from(book.train_price(kind))
         <= i64::from(books.marks(treasury)) + i64::from(marks_of_director(books, company))
 }

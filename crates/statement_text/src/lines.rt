@@ -48,7 +48,7 @@ fn push_company<B: RuleBook>(text: &mut Text, book: &B, books: &Books, company: 
     if holds_director(books, company, 0) {
         return;
     }
-    let cash = books.marks(books.players as usize + company as usize);
+    let cash = books.marks(books.treasury(company));
     let price = price_now(book, books, company);
     let director = director_number(books, company);
     let offering = books.tenths(company, 0);

@@ -12,18 +12,18 @@ use Rattle.ledger.specs.declared.company.Company.{Company}
 use Rattle.ledger.proofs.Crossed.{crossed_append, all_same_players}
 
 -- help, if any, then the price, then the train
-pub train_bought : (b : Book) (s t u v : Books) (company kind price marks : ℕ) → price ≡ b.train_price kind → marks ≡ price
+pub train_bought : (b : Book) (s t u v : Books) (company kind price payer marks receiver : ℕ) → price ≡ b.train_price kind → payer ≡ treasury s company → marks ≡ price → receiver ≡ company
     → t ≡ all_crossed s (help s company price (director s company))
-    → u ≡ crossed t (pays (s.players + company) bank marks)
-    → v ≡ crossed u (moves stack company (record { kind = kind; count = 1 }))
+    → u ≡ crossed t (pays payer bank marks)
+    → v ≡ crossed u (moves stack receiver (record { kind = kind; count = 1 }))
     → v ≡ train_after b s company kind
-train_bought b s t u v company kind price marks is same p q r =
+train_bought b s t u v company kind price payer marks receiver is from same to p q r =
     let first = help s company (b.train_price kind) (director s company) in
     let pay = pays (treasury s company) bank (b.train_price kind) in
     let move = moves stack company (record { kind = kind; count = 1 }) in
     let helped : t ≡ all_crossed s first = p ∙ ap (λ n. all_crossed s (help s company n (director s company))) is in
-    let paid : u ≡ crossed t pay = q ∙ ap (λ n. crossed t (pays (treasury s company) bank n)) (same ∙ is) in
-    r ∙ ap (λ (z : Books). crossed z move) (paid ∙ ap (λ (z : Books). crossed z pay) helped) ∙ sym (crossed_append s first (pay ∷ (move ∷ [])))
+    let paid : u ≡ crossed t pay = q ∙ ap (λ n. crossed t (pays n bank marks)) from ∙ ap (λ n. crossed t (pays (treasury s company) bank n)) (same ∙ is) in
+    r ∙ ap (λ n. crossed u (moves stack n (record { kind = kind; count = 1 }))) to ∙ ap (λ (z : Books). crossed z move) (paid ∙ ap (λ (z : Books). crossed z pay) helped) ∙ sym (crossed_append s first (pay ∷ (move ∷ [])))
 
 -- what a hand holds of a company, where the company records are the same
 same_tenths : (s t : Books) (company place : ℕ) → t.companies ≡ s.companies → tenths_at t company place ≡ tenths_at s company place
@@ -42,15 +42,17 @@ dividend_next s t u company d k marks inside same is moved =
     ∙ ap (λ n. all_crossed u (dividends s company d n (s.players - (k + 1)))) (sym (add-one (k + 1)))
 
 -- after the seats the company gets its part
-pub split_paid : (s t u : Books) (company kept : ℕ) (split : Split) (which : Option Split) → which ≡ Some split
+pub split_paid : (s t u : Books) (company payee kept : ℕ) (split : Split) (which : Option Split) → which ≡ Some split
     → t ≡ all_crossed s (dividends s company split.dividend 1 s.players)
     → kept ≡ split.kept + split.dividend * tenths_at s company pool
-    → u ≡ crossed t (pays bank (t.players + company) kept)
+    → payee ≡ treasury t company
+    → u ≡ crossed t (pays bank payee kept)
     → u ≡ all_crossed s (payout_crossings s company which)
-split_paid s t u company kept split which e p is q =
+split_paid s t u company payee kept split which e p is to q =
     let first = dividends s company split.dividend 1 s.players in
     let seats : t.players ≡ s.players = ap (λ (z : Books). z.players) p ∙ all_same_players s first in
     q
+    ∙ ap (λ n. crossed t (pays bank n kept)) to
     ∙ ap (λ n. crossed t (pays bank (n + company) kept)) seats
     ∙ ap (λ n. crossed t (pays bank (s.players + company) n)) is
     ∙ ap (λ (z : Books). crossed z (pays bank (s.players + company) (split.kept + split.dividend * tenths_at s company pool))) p

@@ -13,13 +13,13 @@ use crate::sale::make_sale;
 use crate::train::buy_train;
 use faults::table::TableRefusal;
 use judging::rounds::{judge_close, judge_reopen, on_stock_turn};
-use judging::sale::judge_sell;
+use judging::sale::Sale;
 use ledger::books::Books;
 use ledger::call::Call;
 use operating::payout::judge_payout;
 use operating::train::judge_train;
 use operating::turn::{judge_bill, judge_done};
-use purchasing::judge_buy;
+use purchasing::Purchase;
 use rulebook::book::RuleBook;
 
 pub(crate) fn call_sell<B: RuleBook>(
@@ -34,8 +34,13 @@ pub(crate) fn call_sell<B: RuleBook>(
     ensures told { result ≡ answer (B.meaning book.now) books.old (Sell card seat company tenths) }
     ensures made { books.new ≡ after (B.meaning book.now) books.old (Sell card seat company tenths) }
 {
-    judge_sell(book, books, card, seat, company, tenths)?;
-    make_sale(book, books, seat, company, tenths);
+    let sale = Sale {
+        seat,
+        company,
+        tenths,
+    };
+    sale.judge(book, books, card)?;
+    make_sale(book, books, sale);
     Ok(())
 }
 
@@ -52,8 +57,14 @@ pub(crate) fn call_buy<B: RuleBook>(
     ensures told { result ≡ answer (B.meaning book.now) books.old (Buy card seat company source space) }
     ensures made { books.new ≡ after (B.meaning book.now) books.old (Buy card seat company source space) }
 {
-    judge_buy(book, books, card, seat, company, source, space)?;
-    make_purchase(book, books, seat, company, source, space);
+    let purchase = Purchase {
+        seat,
+        company,
+        source,
+        space,
+    };
+    purchase.judge(book, books, card)?;
+    make_purchase(book, books, purchase);
     Ok(())
 }
 

@@ -10,7 +10,7 @@ use kinds::certificate_set::CertificateSet;
 use kinds::train_load::TrainLoad;
 use ledger::books::Books;
 use ledger::certificates::lowest;
-use ledger::reading::slot;
+use ledger::reading::{seat_papers, slot};
 
 fn pay(books: &mut Books, giver: usize, receiver: usize, marks: u32) -> Result<(), CarryFault>
     ensures { (result, books.new) ≡ crossing_outcome books.old (pays giver receiver marks) }
@@ -74,7 +74,7 @@ pub(crate) fn exchange_director(books: &mut Books, company: u8, new: u8, old: u8
     requires { company ≤ 8 }
     ensures { books.new ≡ all_crossed books.old (exchange books.old company new old) }
 {
-    let (new, old) = (new as usize + 1, old as usize + 1);
+    let (new, old) = (seat_papers(new), seat_papers(old));
     let two = lowest(books.papers(company, new).certificates(), 2, 0);
     cross_papers(books, company, new, old, two);
     cross_papers(books, company, old, new, CertificateSet { bits: 1 });

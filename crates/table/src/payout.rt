@@ -25,7 +25,7 @@ fn pay_split(books: &mut Books, company: u8, split: Option<Split>)
     if let Some(split) = split {
         let kept = share_of_company(books, company, split);
         pay_dividends(books, company, split.dividend);
-        let treasury = books.players as usize + company as usize;
+        let treasury = books.treasury(company);
         cross_cash(books, 0, treasury, kept);
     }
 }

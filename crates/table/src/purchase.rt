@@ -8,29 +8,20 @@ use crate::moving::{cross_cash, cross_papers, exchange_director};
 use holdings::{director_of, seat_tenths};
 use ledger::books::Books;
 use ledger::certificates::lowest;
-use ledger::reading::slot;
-use purchasing::{
-    cost_of, float_payment, floated_then, is_floating, par_paid, payee_of, source_set_of,
-    token_then,
-};
+use ledger::reading::{seat_papers, slot};
+use purchasing::Purchase;
 use rulebook::book::RuleBook;
 
-fn pay_and_receive<B: RuleBook>(
-    book: &B,
-    books: &mut Books,
-    seat: u8,
-    company: u8,
-    source: u8,
-    space: u16,
-)
-    requires { company ≤ 8 }
-    ensures { books.new ≡ all_crossed books.old (purchase (B.meaning book.now) books.old seat company source space) }
+fn pay_and_receive<B: RuleBook>(book: &B, books: &mut Books, asked: Purchase)
+    requires { asked.company ≤ 8 }
+    ensures { books.new ≡ all_crossed books.old (purchase (B.meaning book.now) books.old asked.seat asked.company asked.source asked.space) }
 {
-    let marks = cost_of(book, books, company, source, space);
-    let payee = payee_of(book, books, company, source);
-    let load = lowest(source_set_of(books, company, source), 1, 0);
-    cross_cash(books, seat as usize, payee, marks);
-    cross_papers(books, company, source as usize, seat as usize + 1, load);
+    let marks = asked.cost(book, books);
+    let payee = asked.payee(book, books);
+    let load = lowest(asked.source_set(books), 1, 0);
+    let (giver, receiver) = (usize::from(asked.source), seat_papers(asked.seat));
+    cross_cash(books, usize::from(asked.seat), payee, marks);
+    cross_papers(books, asked.company, giver, receiver, load);
 }
 
 fn overtake(books: &mut Books, seat: u8, company: u8)
@@ -64,28 +55,22 @@ fn pay_float(books: &mut Books, company: u8, floating: bool, money: u32)
     ensures { books.new ≡ all_crossed books.old (if floating then pays bank (treasury books.old company) money ∷ [] else []) }
 {
     if floating {
-        let treasury = books.players as usize + company as usize;
+        let treasury = books.treasury(company);
         cross_cash(books, 0, treasury, money);
     }
 }
 
-pub(crate) fn make_purchase<B: RuleBook>(
-    book: &B,
-    books: &mut Books,
-    seat: u8,
-    company: u8,
-    source: u8,
-    space: u16,
-)
-    requires { company ≤ 8 }
-    ensures { books.new ≡ buy_after (B.meaning book.now) books.old seat company source space }
+pub(crate) fn make_purchase<B: RuleBook>(book: &B, books: &mut Books, asked: Purchase)
+    requires { asked.company ≤ 8 }
+    ensures { books.new ≡ buy_after (B.meaning book.now) books.old asked.seat asked.company asked.source asked.space }
 {
-    let token = token_then(books, company, source, space);
-    let par = par_paid(book, books, company, source, space);
-    let floating = is_floating(book, books, company, source);
-    let money = float_payment(book, books, company, source, space);
-    let floated = floated_then(book, books, company, source);
-    pay_and_receive(book, books, seat, company, source, space);
+    let Purchase { seat, company, .. } = asked;
+    let token = asked.token_after(books);
+    let par = asked.par(book, books);
+    let floating = asked.is_floating(book, books);
+    let money = asked.float_payment(book, books);
+    let floated = asked.floated_after(book, books);
+    pay_and_receive(book, books, asked);
     overtake(books, seat, company);
     pay_float(books, company, floating, money);
     note_purchase(books, seat, company, token, par, floated);

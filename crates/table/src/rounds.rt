@@ -56,7 +56,7 @@ pub(crate) fn close_round<B: RuleBook>(book: &B, books: &mut Books)
 pub(crate) fn pay_bill(books: &mut Books, company: u8, amount: u16)
     ensures { books.new ≡ bill_after books.old company amount }
 {
-    let treasury = books.players as usize + company as usize;
+    let treasury = books.treasury(company);
     cross_cash(books, treasury, 0, u32::from(amount));
 }
 

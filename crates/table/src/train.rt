@@ -17,8 +17,8 @@ fn get_help(books: &mut Books, company: u8, price: u16)
     match director_of(books, company) {
         Some(seat) if is_helped(books, company, price) => {
             let marks = missing_marks(books, company, price);
-            let treasury = books.players as usize + company as usize;
-            cross_cash(books, seat as usize, treasury, marks);
+            let treasury = books.treasury(company);
+            cross_cash(books, usize::from(seat), treasury, marks);
         }
         _ => {}
     }
@@ -28,8 +28,8 @@ pub(crate) fn buy_train<B: RuleBook>(book: &B, books: &mut Books, company: u8, k
     ensures { books.new ≡ train_after (B.meaning book.now) books.old company kind }
 {
     let price = book.train_price(kind);
-    let treasury = books.players as usize + company as usize;
+    let treasury = books.treasury(company);
     get_help(books, company, price);
     cross_cash(books, treasury, 0, u32::from(price));
-    cross_trains(books, 0, company as usize, TrainLoad { kind, count: 1 });
+    cross_trains(books, 0, usize::from(company), TrainLoad { kind, count: 1 });
 }

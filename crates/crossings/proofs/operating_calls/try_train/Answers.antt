@@ -10,4 +10,4 @@ returns g c =
     let price = c.train_price-price in
     then_made c.move_trains.result _ _ _ _ _ _ c.in_ok-get_help.ensures
     (then_made c.move_trains.result _ _ _ _ _ _ c.in_ok-pay.ensures c.move_trains.ensures refl)
-    (train_order b s c.args.company c.args.kind price.result c.from.result price.ensures c.from.ensures)
+    (train_order b s c.args.company c.args.kind price.result c.treasury-treasury.result c.from.result price.ensures c.treasury-treasury.ensures c.from.ensures)

@@ -7,7 +7,7 @@ pub returns : goal.returns
 returns g c =
     let b = g.B.RuleBook.meaning c.args.book.now in
     let s = c.args.trial.now.books in
-    let a = c.args in
+    let a = c.args.asked in
     let floating = c.is_floating-floating in
     let money = c.float_payment-money in
     let bought = c.in_ok-pay_and_receive.ensures in
