@@ -1,11 +1,11 @@
 -- Sets of small numbers, bit by bit.
 use Rattle.std.specs.Prelude.{◌≡◌, ℕ, zero, suc, ◌+◌, ◌*◌, ◌/◌, ◌%◌, ◌^◌, ◌<◌, ◌≤◌, true, false, ◌⊎◌, ◌==◌, bit_or, count_ones, refl}
-use Rattle.std.proofs.Common.{sym, ap, subst, ◌∙◌, inl, inr, ⊎_elim, div-one, zero-mul, add-one, arith, lit<, pow_mono, pow_pos}
-use Rattle.std.proofs.Math.Nat.{zero-div, div-eq_of_lt}
-use Rattle.std.specs.Int.Bits.{bit_and, bit_xor, and_zero_l, and_zero_r, xor_add_and, xor_disjoint, and_lt}
+use Rattle.std.proofs.Common.{min, sym, ap, subst, ◌∙◌, inl, inr, ⊎_elim, add-one, arith, pow_pos}
+use Rattle.std.proofs.Math.Nat.{div-lt_iff_lt-mul}
+use Rattle.std.specs.Int.Bits.{bit_and, bit_xor}
 use Rattle.std.specs.Int.Count.{ones_step}
-use Rattle.std.proofs.Math.Pow.{pow-lt}
-use Rattle.std.proofs.lemmas.Nat.{shr_below, shr-shr, div-add-mod', mod_below, and_shr, and_mod, xor_shr, xor_mod, or_disjoint, ones-le}
+use Rattle.std.proofs.lemmas.Nat.{shr_below, shr-shr, and_shr, and_mod, xor_shr, xor_mod, ones-le}
+use Rattle.std.proofs.lemmas.Nat.Bits.{bit_at-zero, bit_at-lt, bit_at_above, bit_at_and, bit_at_or, bit_at_xor, same_from_bits}
 use Rattle.std.proofs.lemmas.Bool.{eqb-true, eqb-false, eq-eqb, cases_lt}
 use Rattle.kinds.specs.Papers.{bit, sized}
 
@@ -16,16 +16,13 @@ pub bit_of_xor : (t a b : ℕ) → bit t (bit_xor a b) ≡ bit_xor (bit t a) (bi
 bit_of_xor t a b = ap (λ z. z % 2) (xor_shr a b t) ∙ xor_mod (a / 2 ^ t) (b / 2 ^ t) 1
 
 pub bit_zero : (t : ℕ) → bit t 0 ≡ 0
-bit_zero t = ap (λ z. z % 2) (zero-div (2 ^ t))
+bit_zero = bit_at-zero
 
 pub bit_below : (t n : ℕ) → bit t n < 2
-bit_below t n = mod_below (n / 2 ^ t) 2 (lit< tt)
+bit_below t n = bit_at-lt n t
 
 pub bit_past : (k t n : ℕ) → n < 2 ^ k → k ≤ t → bit t n ≡ 0
-bit_past k t n h le =
-    let p : 2 ^ k ≤ 2 ^ t = pow_mono le in
-    let q : n < 2 ^ t = omega arith in
-    ap (λ z. z % 2) (div-eq_of_lt q)
+bit_past k t n h le = bit_at_above n k t h le
 
 low : (n : ℕ) → n < 2 → (n ≡ 0) ⊎ (n ≡ 1)
 low zero h = inl refl
@@ -33,58 +30,35 @@ low (suc n) h = inr (omega arith)
 
 -- numbers with the same bits are the same
 pub by_bits : (k a b : ℕ) → a < 2 ^ k → b < 2 ^ k → ((t : ℕ) → bit t a ≡ bit t b) → a ≡ b
-by_bits zero a b ha hb h = omega arith
-by_bits (suc k) a b ha hb h =
-    let wa : a < 2 ^ (k + 1) = rw add-one ha in
-    let wb : b < 2 ^ (k + 1) = rw add-one hb in
-    let q : a / 2 ≡ b / 2 = by_bits k (a / 2) (b / 2) (shr_below a k 1 wa) (shr_below b k 1 wb) (λ t. ap (λ z. z % 2) (shr-shr a 1 t) ∙ h (1 + t) ∙ sym (ap (λ z. z % 2) (shr-shr b 1 t))) in
-    let r : a % 2 ≡ b % 2 = ap (λ z. z % 2) (sym (div-one a)) ∙ h 0 ∙ ap (λ z. z % 2) (div-one b) in
-    sym (div-add-mod' a 2) ∙ ap (λ z. z * 2 + a % 2) q ∙ ap (λ z. b / 2 * 2 + z) r ∙ div-add-mod' b 2
-
-below_power : (n : ℕ) → n < 2 ^ n
-below_power zero = lit< tt
-below_power (suc n) = let h = below_power n in let p : 2 ^ n < 2 ^ suc n = pow-lt (omega arith) in omega arith
+by_bits k a b ha hb h = same_from_bits a b h
 
 -- a set that has no number from k on
 pub below_from : (k n : ℕ) → ((t : ℕ) → k ≤ t → bit t n ≡ 0) → n < 2 ^ k
 below_from k n h =
-    let none : n / 2 ^ k ≡ 0 = by_bits (n / 2 ^ k) (n / 2 ^ k) 0 (below_power (n / 2 ^ k)) (pow_pos (n / 2 ^ k)) (λ t. ap (λ z. z % 2) (shr-shr n k t) ∙ h (k + t) (omega arith) ∙ sym (bit_zero t)) in
-    let split : n / 2 ^ k * 2 ^ k + n % 2 ^ k ≡ n = div-add-mod' n (2 ^ k) in
-    let rest : n % 2 ^ k < 2 ^ k = mod_below n (2 ^ k) (pow_pos k) in
-    let nought : n / 2 ^ k * 2 ^ k ≡ 0 = ap (λ z. z * 2 ^ k) none ∙ zero-mul (2 ^ k) in
-    omega (arith, split, rest, nought)
-
--- of two bits
-and_under : (u v : ℕ) → u < 2 → v < 2 → v ≤ u → bit_and u v ≡ v
-and_under u v hu hv le =
-    ⊎_elim (λ e. ap (bit_and u) e ∙ and_zero_r u ∙ sym e) (λ e. let f : u ≡ 1 = omega arith in ap (λ z. bit_and z v) f ∙ ap (bit_and 1) e ∙ sym e) (low v hv)
-
-and_apart : (u v : ℕ) → u < 2 → v < 2 → u + v ≤ 1 → bit_and u v ≡ 0
-and_apart u v hu hv le =
-    ⊎_elim (λ e. ap (bit_and u) e ∙ and_zero_r u) (λ e. let f : u ≡ 0 = omega arith in ap (λ z. bit_and z v) f ∙ and_zero_l v) (low v hv)
+    let none : n / 2 ^ k ≡ 0 = same_from_bits (n / 2 ^ k) 0 (λ t. ap (λ z. z % 2) (shr-shr n k t) ∙ h (k + t) (omega arith) ∙ sym (bit_zero t)) in
+    let below : n < 1 * 2 ^ k = (div-lt_iff_lt-mul (pow_pos k)).0 (omega (arith, none)) in
+    omega arith
 
 module _ (k p l : ℕ) (hp : p < 2 ^ k) (hl : l < 2 ^ k) where
   pub all_there : ((t : ℕ) → bit t l ≤ bit t p) → bit_and p l ≡ l
-  all_there h =
-      by_bits k (bit_and p l) l (and_lt k p l hp hl) hl (λ t. bit_of_and t p l ∙ and_under (bit t p) (bit t l) (bit_below t p) (bit_below t l) (h t))
+  all_there h = same_from_bits (bit_and p l) l (λ t. let a = bit_at_and p l t in let le = h t in omega (arith, a, le))
 
   pub none_there : ((t : ℕ) → bit t p + bit t l ≤ 1) → bit_and p l ≡ 0
-  none_there h =
-      by_bits k (bit_and p l) 0 (and_lt k p l hp hl) (pow_pos k) (λ t. bit_of_and t p l ∙ and_apart (bit t p) (bit t l) (bit_below t p) (bit_below t l) (h t) ∙ sym (bit_zero t))
+  none_there h = same_from_bits (bit_and p l) 0 (λ t. let a = bit_at_and p l t in let le = h t in let z = bit_zero t in omega (arith, a, le, z))
 
 -- a bit that is there falls, one that is not rises
 pub falls : (t p l : ℕ) → bit_and p l ≡ l → bit t (bit_xor p l) + bit t l ≡ bit t p
 falls t p l e =
-    let x = bit_of_xor t p l in
-    let a : bit_and (bit t p) (bit t l) ≡ bit t l = sym (bit_of_and t p l) ∙ ap (bit t) e in
-    let s = xor_add_and (bit t p) (bit t l) in
-    omega (arith, x, a, s)
+    let x = bit_at_xor p l t in
+    let a : bit t l ≡ min (bit t p) (bit t l) = sym (ap (bit t) e) ∙ bit_at_and p l t in
+    let few = bit_below t p in
+    omega (arith, x, a, few)
 
 pub rises : (t p l : ℕ) → bit_and p l ≡ 0 → bit t (bit_or p l) ≡ bit t p + bit t l
 rises t p l e =
-    ap (bit t) (or_disjoint p l e ∙ sym (xor_disjoint p l e))
-    ∙ bit_of_xor t p l
-    ∙ xor_disjoint (bit t p) (bit t l) (sym (bit_of_and t p l) ∙ ap (bit t) e ∙ bit_zero t)
+    let o = bit_at_or p l t in
+    let a : 0 ≡ min (bit t p) (bit t l) = sym (ap (bit t) e ∙ bit_zero t) ∙ bit_at_and p l t in
+    omega (arith, o, a)
 
 pub named_one : (t n : ℕ) → (bit t n == 1) ≡ false → bit t n ≡ 0
 named_one t n e = let f = eqb-false (bit t n) 1 e in let h = bit_below t n in ⊎_elim (λ z. z) (λ o. absurd (f o)) (low (bit t n) h)

@@ -7,7 +7,7 @@ use Rattle.kinds.specs.Papers.{no_papers}
 use Rattle.ledger.specs.Holdings.{no_cash, no_trains, no_company}
 use Rattle.ledger.specs.declared.company.Company.{Company}
 use Rattle.kinds.proofs.Equal.{decides_cash, decides_trains}
-use Rattle.comparing.proofs.Places.{by_place, pairs_decided, SameRows, same_rows, same_papers_of, equal_hands}
+use Rattle.comparing.proofs.Places.{by_place, pairs_decided, SameRows, same_papers_of, equal_hands}
 use Rattle.comparing.proofs.same_hands.Goals as goal
 use Rattle.comparing.proofs.same_hands.Goals.{Joined-eq, then-eq, else-eq}
 
@@ -15,12 +15,10 @@ rows : (c : Joined-eq) → Decides c.if-eq.value (SameRows c.args.one.now c.args
 rows c =
     let s = c.args.one.now in
     let t = c.args.other.now in
-    let len : length s.cash ≡ length t.cash = search rules in
-    let cash = by_place no_cash s.cash t.cash _ len (slice_eq-Decides decides_cash s.cash t.cash c.eq.result c.eq.ensures) in
+    let cash = by_place no_cash s.cash t.cash _ (slice_eq-Decides decides_cash s.cash t.cash c.eq.result c.eq.ensures) (search rules) in
     elim c.if-eq.branch [
       | then-eq w ↦
-          let long : length s.trains ≡ length t.trains = search rules in
-          let trains = by_place no_trains s.trains t.trains _ long (slice_eq-Decides decides_trains s.trains t.trains w.eq-then-eq.result w.eq-then-eq.ensures) in
+          let trains = by_place no_trains s.trains t.trains _ (slice_eq-Decides decides_trains s.trains t.trains w.eq-then-eq.result w.eq-then-eq.ensures) (search rules) in
           Decides-like _ (λ p. (cash.0 w.if-eq.true, p)) (λ p. p.1) (Decides-at _ _ w.value-is trains)
       | else-eq w ↦ Decides-at _ _ w.value-is (λ e. absurd (false≢true (sym w.if-eq.false ∙ e)), λ p. cash.1 p.0)
     ]
@@ -42,4 +40,4 @@ returns-then-eq-2 c =
 pub returns-else-eq-2 : goal.returns-else-eq-2
 returns-else-eq-2 c =
     let own = rows (goal.at.returns-else-eq-2 c).Joined-eq in
-    (λ e. absurd (false≢true (sym c.if-eq-2.false ∙ e)), λ same. own.1 (same_rows c.args.one.now c.args.other.now same))
+    (λ e. absurd (false≢true (sym c.if-eq-2.false ∙ e)), λ same. own.1 (same.cash, same.trains))

@@ -1,4 +1,4 @@
-use Rattle.std.proofs.Common.{◌≡◌, length, rules}
+use Rattle.std.proofs.Common.{rules}
 use Rattle.std.proofs.lemmas.Slice.Eq.{slice_eq-Decides}
 use Rattle.kinds.specs.Papers.{no_papers}
 use Rattle.kinds.proofs.Equal.{decides_papers}
@@ -9,5 +9,4 @@ pub returns : goal.returns
 returns c =
     let xs = c.args.one.now.papers in
     let ys = c.args.other.now.papers in
-    let len : length xs ≡ length ys = search rules in
-    by_place no_papers xs ys _ len (slice_eq-Decides decides_papers xs ys _ c.eq.ensures)
+    by_place no_papers xs ys _ (slice_eq-Decides decides_papers xs ys _ c.eq.ensures) (search rules)

@@ -10,7 +10,7 @@ impl Cash {
     pub fn new(floor: CashFloor, marks: i32) -> Option<Cash>
         ensures { result ≡ cash_new floor marks }
     {
-        if marks < floor.marks() || marks > Cash::CEILING as i32 {
+        if marks < floor.marks() || marks > Self::CEILING as i32 {
             return None;
         }
         Some(Cash { marks, floor })
