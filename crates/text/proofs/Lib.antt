@@ -1,4 +1,2 @@
 pub mod Added
 pub mod Bounds
-mod Signs
-mod WordDigits

@@ -3,6 +3,7 @@ ghost use Rattle.std.specs.Fmt.{signed_decimal};
 ghost use Rattle.text.specs.Text.{added, shown};
 
 use crate::text::{CAPACITY, Text};
+use itoa::Buffer;
 
 impl Text {
     pub fn empty() -> Text
@@ -31,34 +32,16 @@ impl Text {
     }
 
     // Writes `n` in decimal, with no leading zeros.
-    pub fn push_number(&mut self, n: u32)
+    pub fn push_number(&mut self, n: u64)
         ensures { shown self.new ≡ added (shown self.old) (decimal n) }
     {
-        if n >= 10 {
-            self.push_number(n / 10);
-        }
-        self.push(b'0' + (n % 10) as u8);
-    }
-
-    // The same for a wider number.
-    pub fn push_wide(&mut self, wide: u64)
-        ensures { shown self.new ≡ added (shown self.old) (decimal wide) }
-    {
-        let Ok(n) = u32::try_from(wide) else {
-            self.push_wide(wide / 10);
-            self.push(b'0' + (wide % 10) as u8);
-            return;
-        };
-        self.push_number(n);
+        self.push_bytes(Buffer::new().format(n).as_bytes());
     }
 
     // Writes `z` in decimal, after a minus sign if it is below nought.
     pub fn push_signed(&mut self, z: i32)
         ensures { shown self.new ≡ added (shown self.old) (signed_decimal z) }
     {
-        if z < 0 {
-            self.push(b'-');
-        }
-        self.push_number(z.unsigned_abs());
+        self.push_bytes(Buffer::new().format(z).as_bytes());
     }
 }

@@ -4,6 +4,7 @@ ghost use Rattle.text.specs.Text.{added, shown};
 
 use crate::text::Text;
 
+// Piece by piece: `write!` tells what it wrote only where it answers `Ok`, and these functions always do.
 impl Text {
     pub fn push_bank_line(&mut self, cash: i32)
         ensures { shown self.new ≡ added (shown self.old) (bank_line cash) }
@@ -17,11 +18,10 @@ impl Text {
         ensures { shown self.new ≡ added (shown self.old) (seat_line seat cash certificates) }
     {
         self.push_bytes(b"seat ");
-        self.push_number(u32::from(seat));
+        self.push_number(u64::from(seat));
         self.push(b' ');
         self.push_signed(cash);
-        self.push(b' ');
-        self.push_number(certificates);
+        self.push_field(u64::from(certificates));
         self.push(b'\n');
     }
 
@@ -37,7 +37,7 @@ impl Text {
         ensures { shown self.new ≡ added (shown self.old) (company_line company cash price director offering pool) }
     {
         self.push_bytes(b"company ");
-        self.push_number(u32::from(company));
+        self.push_number(u64::from(company));
         self.push(b' ');
         self.push_signed(cash);
         self.push_field(u64::from(price));
@@ -52,22 +52,21 @@ impl Text {
         ensures { shown self.new ≡ added (shown self.old) (number_field n) }
     {
         self.push(b' ');
-        self.push_wide(n);
+        self.push_number(n);
     }
 
-    // What a refusal with its place begins with.
+    // What the line of a refusal begins with.
     fn push_refused(&mut self, number: u8)
         ensures { shown self.new ≡ added (shown self.old) (refused_number number) }
     {
         self.push_bytes(b"refused ");
-        self.push_wide(u64::from(number));
+        self.push_number(u64::from(number));
     }
 
     pub fn push_refused_line(&mut self, number: u8)
         ensures { shown self.new ≡ added (shown self.old) (refused_line number) }
     {
-        self.push_bytes(b"refused ");
-        self.push_number(u32::from(number));
+        self.push_refused(number);
         self.push_bytes(b"\n");
     }
 
@@ -76,7 +75,7 @@ impl Text {
     {
         self.push_refused(number);
         self.push_bytes(b" at ");
-        self.push_wide(place as u64);
+        self.push_number(place as u64);
         self.push(b'\n');
     }
 }

@@ -10,7 +10,7 @@ pub fn word_number(word: &[u8]) -> Option<u32>
     }
     let mut n: u32 = 0;
     for digit in word {
-        if *digit < b'0' || *digit > b'9' {
+        if !digit.is_ascii_digit() {
             return None;
         }
         n = n
