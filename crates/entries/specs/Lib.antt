@@ -3,3 +3,4 @@ pub mod Writing
 pub mod Reading
 pub mod Whole
 pub mod Laws
+pub mod Text

@@ -1,7 +1,10 @@
 // What a record says. The fields have the widths that they have in a file.
-ghost use Rattle.std.specs.Prelude.{◌≡◌};
+ghost use Rattle.std.specs.Prelude.{◌≡◌, Some};
 ghost use Rattle.entries.specs.Entry.{view};
+ghost use Rattle.entries.specs.Text.{entry_words};
 ghost use Rattle.entries.specs.Writing.{size};
+
+use std::fmt;
 
 #[derive(Clone, Copy, PartialEq, Eq, Debug)]
 pub enum Record {
@@ -54,6 +57,39 @@ impl Record {
             Record::Buy { .. } | Record::Payout { .. } => 5,
             Record::End { .. } | Record::Done { .. } => 2,
             Record::Close | Record::Reopen => 1,
+        }
+    }
+}
+
+// A record's name, and its fields in order.
+impl fmt::Display for Record {
+    ghost output = { λ r. Some (entry_words (view r)) };
+
+    fn fmt<W: fmt::Write>(&self, f: &mut fmt::Formatter<W>) -> fmt::Result {
+        match *self {
+            Record::Open { book, players } => write!(f, "open {book} {players}"),
+            Record::Sell {
+                seat,
+                company,
+                tenths,
+            } => write!(f, "sell {seat} {company} {tenths}"),
+            Record::Buy {
+                seat,
+                company,
+                source,
+                par_space,
+            } => write!(f, "buy {seat} {company} {source} {par_space}"),
+            Record::End { seat } => write!(f, "end {seat}"),
+            Record::Close => write!(f, "close"),
+            Record::Bill { company, amount } => write!(f, "bill {company} {amount}"),
+            Record::Payout {
+                company,
+                mode,
+                revenue,
+            } => write!(f, "payout {company} {mode} {revenue}"),
+            Record::Train { company, kind } => write!(f, "train {company} {kind}"),
+            Record::Done { company } => write!(f, "done {company}"),
+            Record::Reopen => write!(f, "reopen"),
         }
     }
 }

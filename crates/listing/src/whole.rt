@@ -3,7 +3,7 @@ ghost use Rattle.entries.specs.Laws.{WholeFiles};
 ghost use Rattle.entries.specs.Whole.{reading};
 ghost use Rattle.listing.specs.Listing.{lines, listing_of};
 
-use crate::lines::{push_fault, push_record};
+use crate::lines::push_record;
 use faults::file::{FileFault, FileRefusal};
 use gamefile::records::{LONGEST, records_from};
 use std::alloc::{AllocError, Global};
@@ -15,7 +15,7 @@ fn push_file(text: &mut String, file: &[u8]) -> Result<(), AllocError>
     for found in records_from(file, 0) {
         match found {
             Ok((place, record)) => push_record(text, place, record)?,
-            Err(fault) => push_fault(text, fault)?,
+            Err(fault) => writeln!(text, "{fault}")?,
         }
     }
     Ok(())
@@ -29,7 +29,7 @@ fn push_listing(text: &mut String, file: &[u8]) -> Result<(), AllocError>
             refusal: FileRefusal::FileTooLong,
             place: 0,
         };
-        return push_fault(text, fault);
+        return writeln!(text, "{fault}");
     }
     push_file(text, file)
 }

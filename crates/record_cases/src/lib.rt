@@ -7,8 +7,6 @@ ghost use Rattle.record_cases.specs.Samples.{Samples};
 mod tests;
 
 // Stands for its contract alone.
-pub fn record_samples_hold() -> u8
+pub fn record_samples_hold()
     ensures { Samples }
-{
-    0
-}
+{}

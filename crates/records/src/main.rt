@@ -1,12 +1,13 @@
 // Lists the records of a game file on standard input.
 #![tactic(auto)]
 
+use gamefile::records::LONGEST;
 use listing::listing;
 use std::io;
 use std::io::{Read, Write};
 
 // One byte more than the longest file tells that a file is too long.
-const ENOUGH: u64 = 65_537;
+const ENOUGH: u64 = LONGEST as u64 + 1;
 
 fn list(rt: &HostRuntime) -> io::Result<()> {
     let mut file = Vec::new(rt.alloc());

@@ -4,7 +4,6 @@
 mod lines;
 mod places;
 mod refusals;
-mod words;
 
 pub use lines::push_crossing;
 pub use refusals::push_refusal;
