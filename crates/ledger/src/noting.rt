@@ -7,7 +7,7 @@ use crate::books::Books;
 use crate::company::Company;
 use crate::reading::slot;
 
-// Nothing is noted outside a row.
+// Nothing is noted outside a row. An index is tested here, as a proof knows no element after a slice's `get_mut`.
 fn set_round(row: &mut [u16], place: usize, round: u16)
     ensures { row.new ≡ slice_set row.old place round }
 {

@@ -1,48 +1,17 @@
-ghost use Rattle.std.specs.Prelude.{◌≡◌, ◌+◌, ◌-◌, get_or, slice_index, slice_index_or};
+ghost use Rattle.std.specs.Prelude.{◌≡◌, ◌-◌, MatchOption, slice_index, slice_index_or};
 ghost use Rattle.kinds.specs.Papers.{no_papers};
-ghost use Rattle.ledger.specs.Holdings.{no_cash, no_trains, treasury, seat_papers, marks_at, company_of, papers_at, trains_held, tenths_at, holds_director};
+ghost use Rattle.ledger.specs.Holdings.{no_company, treasury, seat_papers, marks_at, company_of, papers_at, trains_held, tenths_at, holds_director};
 
 use crate::books::Books;
 use crate::company::Company;
 use kinds::cash::Cash;
 use kinds::papers::Papers;
-use kinds::trains::Trains;
 
 // Nothing stands outside a row.
-fn marks_in(row: &[Cash], place: usize) -> i32
-    ensures { result ≡ (get_or row.now place no_cash).marks }
-{
-    if place < row.len() {
-        row[place].marks()
-    } else {
-        0
-    }
-}
-
 pub fn papers_in(hands: &[Papers], place: usize) -> Papers
     ensures { result ≡ slice_index_or hands.now place no_papers }
 {
-    if place < hands.len() {
-        hands[place]
-    } else {
-        Papers::none()
-    }
-}
-
-fn trains_in(row: &[Trains], place: usize, kind: u8) -> u8
-    ensures { result ≡ slice_index (get_or row.now place no_trains).counts kind }
-{
-    if place < row.len() {
-        row[place].count(kind)
-    } else {
-        0
-    }
-}
-
-fn round_in(row: &[u16], place: usize) -> u16
-    ensures { result ≡ slice_index row.now place }
-{
-    if place < row.len() { row[place] } else { 0 }
+    hands.get(place).copied().unwrap_or_else(Papers::none)
 }
 
 // Where a company's record stands.
@@ -60,6 +29,13 @@ pub fn seat_papers(seat: u8) -> usize
 }
 
 impl Books {
+    // A company's record; nothing stands outside the row.
+    fn record(&self, company: u8) -> Option<&Company>
+        ensures { MatchOption result (company_of self.now company ≡ no_company) (λ c. c.now ≡ company_of self.now company) }
+    {
+        self.companies.get(slot(company))
+    }
+
     // Where a company's cash stands: after the bank and the seats.
     pub fn treasury(&self, company: u8) -> usize
         ensures { result ≡ treasury self.now company }
@@ -71,24 +47,22 @@ impl Books {
     pub fn marks(&self, place: usize) -> i32
         ensures { result ≡ marks_at self.now place }
     {
-        marks_in(&self.cash, place)
+        self.cash.get(place).map_or(0, Cash::marks)
     }
 
     // How many trains of a kind stand at a place of the train row.
     pub fn trains(&self, place: usize, kind: u8) -> u8
         ensures { result ≡ trains_held self.now place kind }
     {
-        trains_in(&self.trains, place, kind)
+        self.trains.get(place).map_or(0, |hand| hand.count(kind))
     }
 
     // Certificates of a company at a place of its row.
     pub fn papers(&self, company: u8, place: usize) -> Papers
         ensures { result ≡ papers_at self.now company place }
     {
-        match self.companies.get(slot(company)) {
-            Some(record) => papers_in(&record.papers, place),
-            None => Papers::none(),
-        }
+        self.record(company)
+            .map_or_else(Papers::none, |record| papers_in(&record.papers, place))
     }
 
     pub fn tenths(&self, company: u8, place: usize) -> u32
@@ -100,47 +74,35 @@ impl Books {
     pub fn space(&self, company: u8) -> u16
         ensures { result ≡ (company_of self.now company).space }
     {
-        match self.companies.get(slot(company)) {
-            Some(record) => record.space,
-            None => 0,
-        }
+        self.record(company).map_or(0, |record| record.space)
     }
 
     pub fn par(&self, company: u8) -> u16
         ensures { result ≡ (company_of self.now company).par }
     {
-        match self.companies.get(slot(company)) {
-            Some(record) => record.par,
-            None => 0,
-        }
+        self.record(company).map_or(0, |record| record.par)
     }
 
     pub fn floated(&self, company: u8) -> bool
         ensures { result ≡ (company_of self.now company).floated }
     {
-        match self.companies.get(slot(company)) {
-            Some(record) => record.floated,
-            None => false,
-        }
+        self.record(company).map_or(false, |record| record.floated)
     }
 
     // The round in which a seat last sold a company's papers.
     pub fn last_sold(&self, seat: u8, company: u8) -> u16
         ensures { result ≡ slice_index (company_of self.now company).sold (seat - 1) }
     {
-        match self.companies.get(slot(company)) {
-            Some(record) => round_in(&record.sold, slot(seat)),
-            None => 0,
-        }
+        self.record(company)
+            .and_then(|record| record.sold.get(slot(seat)))
+            .copied()
+            .unwrap_or(0)
     }
 
     // The round in which a company last had its turn.
     pub fn served(&self, company: u8) -> u16
         ensures { result ≡ (company_of self.now company).served }
     {
-        match self.companies.get(slot(company)) {
-            Some(record) => record.served,
-            None => 0,
-        }
+        self.record(company).map_or(0, |record| record.served)
     }
 }

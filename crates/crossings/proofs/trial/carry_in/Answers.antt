@@ -1,5 +1,5 @@
 use Rattle.std.proofs.Common.{sym}
-use Rattle.ledger.proofs.Outside.{set_past}
+use Rattle.std.proofs.lemmas.List.{set_past}
 use Rattle.crossings.proofs.trial.carry_in.Goals as goal
 
 pub returns-else-at-companies : goal.returns-else-at-companies
