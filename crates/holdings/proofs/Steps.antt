@@ -1,60 +1,73 @@
--- One seat, kind or company more, in the definitions of who holds what.
+-- The definitions of who holds what, over lists of numbers; and one seat more.
 use lib.Bits.{bit_and, and_le_r}
-use Rattle.std.proofs.Common.{◌≡◌, ℕ, suc, ◌+◌, ◌-◌, ◌<◌, ◌≤◌, Bool, true, false, cond, ◌||◌, ltb, Some, Option, sym, ap, ◌∙◌, add-one, arith}
+use Rattle.std.proofs.Common.{◌≡◌, ℕ, zero, suc, ◌+◌, ◌-◌, ◌*◌, ◌<◌, ◌≤◌, Bool, true, false, cond, ltb, List, map, filter, fold, find, sum, Some, None, refl, sym, ap, ◌∙◌, add-one, arith}
 use lib.Count.{ones-le, ones}
+use Rattle.std.specs.List.{range_with_len}
+use Rattle.std.proofs.lemmas.List.Sums.{sum_by-cons}
 use Rattle.std.proofs.lemmas.Bool.{lt-ltb, le-ltb, cond-true, cond-false}
 use Rattle.kinds.specs.Papers.{certificate_count, tenths}
 use Rattle.kinds.specs.declared.papers.Papers.{Papers}
 use Rattle.kinds.specs.Certificates.{counted, tenths_counted}
 use Rattle.rulebook.specs.Book.{Book}
 use Rattle.ledger.specs.declared.books.Books.{Books}
-use Rattle.ledger.specs.Holdings.{next_seat, holds_director, seat_papers, seat_tenths, director_from, papers_at, certificates_held, seat_after, leader, trains_held, stack, lowest_kind_from, has_train_from, waiting, better, next_of}
+use Rattle.ledger.specs.Holdings.{next_seat, holds_director, seat_papers, seat_tenths, director_from, papers_at, certificates_held, seat_after, leader, waiting, better, next_of}
 
-one_left : (n k : ℕ) → k < n → n - k ≡ suc (n - (k + 1))
-one_left n k h = omega arith
-
--- the seats from k + 1 on: the next one holds the director's certificate, or one after it
-pub seat_next : (s : Books) (company k : ℕ) → k < s.players
-    → director_from s company (k + 1) (s.players - k) ≡ cond (holds_director s company (k + 2)) (Some (k + 1)) (director_from s company (k + 1 + 1) (s.players - (k + 1)))
-seat_next s company k inside =
-    let place : k + 1 + 1 ≡ k + 2 = omega arith in
-    ap (director_from s company (k + 1)) (one_left s.players k inside)
-    ∙ ap (λ p. cond (holds_director s company p) (Some (k + 1)) (director_from s company (suc (k + 1)) (s.players - (k + 1)))) place
-    ∙ ap (λ n. cond (holds_director s company (k + 2)) (Some (k + 1)) (director_from s company n (s.players - (k + 1)))) (sym (add-one (k + 1)))
-
-module _ (s : Books) (k : ℕ) (inside : k < 8) where
-  pub kind_next : lowest_kind_from s k (8 - k) ≡ cond (ltb 0 (trains_held s stack k)) (Some k) (lowest_kind_from s (k + 1) (8 - (k + 1)))
-  kind_next =
-      ap (lowest_kind_from s k) (one_left 8 k inside)
-      ∙ ap (λ n. cond (ltb 0 (trains_held s stack k)) (Some k) (lowest_kind_from s n (8 - (k + 1)))) (sym (add-one k))
-
-  pub train_next : (place : ℕ) → has_train_from s place k (8 - k) ≡ (ltb 0 (trains_held s place k) || has_train_from s place (k + 1) (8 - (k + 1)))
-  train_next place =
-      ap (has_train_from s place k) (one_left 8 k inside)
-      ∙ ap (λ n. ltb 0 (trains_held s place k) || has_train_from s place n (8 - (k + 1))) (sym (add-one k))
+-- the first seat with the director's certificate
+pub director_found : (s : Books) (company seat n : ℕ) → find (λ k. holds_director s company (seat_papers k)) (range_with_len seat n) ≡ director_from s company seat n
+director_found s company seat zero = refl
+director_found s company seat (suc n) =
+    ap (cond (holds_director s company (seat_papers seat)) (Some seat)) (director_found s company (seat + 1) n ∙ ap (λ k. director_from s company k n) (add-one seat))
 
 -- nine certificates at most
 pub at_most_nine : (p : Papers) → certificate_count p ≤ 9
 at_most_nine p = let n = counted p in let m = ones-le 9 p.certificates p.nine in omega (arith, n, m)
 
-pub company_more : (s : Books) (seat k : ℕ) → certificates_held s seat (k + 1) ≡ certificates_held s seat k + certificate_count (papers_at s (k + 1) (seat_papers seat))
-company_more s seat k =
-    ap (certificates_held s seat) (add-one k)
-    ∙ ap (λ n. certificates_held s seat k + certificate_count (papers_at s n (seat_papers seat))) (sym (add-one k))
+-- the certificates of a seat, over the companies from k + 1 on
+module _ (s : Books) (seat : ℕ) where
+  abbrev pub at_company : ℕ → ℕ
+  at_company company = certificate_count (papers_at s company (seat_papers seat))
 
--- one company more is looked at: it waits for its turn, or it does not
-module _ (b : Book) (s : Books) (k : ℕ) (best : Option ℕ) (inv : best ≡ next_of b s k) where
-  looked_at : next_of b s (k + 1) ≡ cond (waiting s (k + 1)) (better b s (next_of b s k) (k + 1)) (next_of b s k)
-  looked_at =
-      ap (next_of b s) (add-one k)
-      ∙ ap (λ n. cond (waiting s n) (better b s (next_of b s k) n) (next_of b s k)) (sym (add-one k))
+  held_over : (k n : ℕ) → certificates_held s seat k + sum (map at_company (range_with_len (k + 1) n)) ≡ certificates_held s seat (k + n)
+  held_over k zero = let same : k ≡ k + zero = omega arith in let here = ap (certificates_held s seat) same in omega (arith, here)
+  held_over k (suc n) =
+      let more : certificates_held s seat (k + 1) ≡ certificates_held s seat k + at_company (k + 1) = ap (certificates_held s seat) (add-one k) ∙ ap (λ m. certificates_held s seat k + at_company m) (sym (add-one k)) in
+      let index : k + 1 + n ≡ k + suc n = omega arith in
+      let first : sum (map at_company (range_with_len (k + 1) (suc n))) ≡ at_company (k + 1) + sum (map at_company (range_with_len (k + 1 + 1) n)) = sum_by-cons (λ x. x) (at_company (k + 1)) (map at_company (range_with_len (k + 1 + 1) n)) in
+      omega (arith, first, more, held_over (k + 1) n, ap (certificates_held s seat) index)
 
-  module _ (after : Option ℕ) (test : Bool) (tested : test ≡ waiting s (k + 1)) where
-    pub waits : (found : Option ℕ) → test ≡ true → after ≡ found → found ≡ better b s best (k + 1) → after ≡ next_of b s (k + 1)
-    waits found e same is = same ∙ is ∙ ap (λ o. better b s o (k + 1)) inv ∙ sym (looked_at ∙ cond-true _ _ _ (sym tested ∙ e))
+  pub all_held : (n : ℕ) → sum (map at_company (range_with_len 1 n)) ≡ certificates_held s seat n
+  all_held n = let same : 0 + n ≡ n = omega arith in omega (arith, held_over 0 n, ap (certificates_held s seat) same)
 
-    pub does_not_wait : test ≡ false → after ≡ best → after ≡ next_of b s (k + 1)
-    does_not_wait e same = same ∙ inv ∙ sym (looked_at ∙ cond-false _ _ _ (sym tested ∙ e))
+  pub few_held : (a n : ℕ) → sum (map at_company (range_with_len a n)) ≤ 9 * n
+  few_held a zero = omega arith
+  few_held a (suc n) =
+      let first : sum (map at_company (range_with_len a (suc n))) ≡ at_company a + sum (map at_company (range_with_len (a + 1) n)) = sum_by-cons (λ x. x) (at_company a) (map at_company (range_with_len (a + 1) n)) in
+      omega (arith, first, at_most_nine (papers_at s a (seat_papers seat)), few_held (a + 1) n)
+
+-- the next company, over those from k + 1 on: each waits for its turn, or it does not
+module _ (b : Book) (s : Books) where
+  best_over : (k n : ℕ) → fold (better b s) (next_of b s k) (filter (waiting s) (range_with_len (k + 1) n)) ≡ next_of b s (k + n)
+  best_over k zero = let same : k ≡ k + zero = omega arith in ap (next_of b s) same
+  best_over k (suc n) =
+      let index : k + 1 + n ≡ k + suc n = omega arith in
+      one (waiting s (k + 1)) refl ∙ best_over (k + 1) n ∙ ap (next_of b s) index
+    where
+      rest : List ℕ
+      rest = filter (waiting s) (range_with_len (k + 1 + 1) n)
+
+      looked_at : next_of b s (k + 1) ≡ cond (waiting s (k + 1)) (better b s (next_of b s k) (k + 1)) (next_of b s k)
+      looked_at =
+          ap (next_of b s) (add-one k)
+          ∙ ap (λ m. cond (waiting s m) (better b s (next_of b s k) m) (next_of b s k)) (sym (add-one k))
+
+      one : (w : Bool) → waiting s (k + 1) ≡ w → fold (better b s) (next_of b s k) (filter (waiting s) (range_with_len (k + 1) (suc n))) ≡ fold (better b s) (next_of b s (k + 1)) rest
+      one true e =
+          ap (fold (better b s) (next_of b s k)) (cond-true _ _ _ e) ∙ sym (ap (λ o. fold (better b s) o rest) (looked_at ∙ cond-true _ _ _ e))
+      one false e =
+          ap (fold (better b s) (next_of b s k)) (cond-false _ _ _ e) ∙ sym (ap (λ o. fold (better b s) o rest) (looked_at ∙ cond-false _ _ _ e))
+
+  pub next_found : (n : ℕ) → fold (better b s) None (filter (waiting s) (range_with_len 1 n)) ≡ next_of b s n
+  next_found n = let same : 0 + n ≡ n = omega arith in best_over 0 n ∙ ap (next_of b s) same
 
 -- one seat more is seen, and the leader of those seen before stays or gives way
 module _ (s : Books) (company seat seen next : ℕ) (from : 2 ≤ seen) where

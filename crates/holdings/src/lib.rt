@@ -30,15 +30,11 @@ pub fn holds_director(books: &Books, company: u8, place: usize) -> bool
 pub fn director_of(books: &Books, company: u8) -> Option<u8>
     ensures { result ≡ director books.now company }
 {
-    for before in 0..books.players {
-        if holds_director(books, company, before as usize + 2) {
-            return Some(before + 1);
-        }
-    }
-    None
+    (1..=books.players).find(|&seat| holds_director(books, company, seat_papers(seat)))
 }
 
-// The other seat with the most tenths; ties go to the nearest after this one.
+// The other seat with the most tenths; ties go to the nearest after this one. Two seats go on together here, which a
+// fold over pairs would say no plainer.
 pub fn largest_other_of(books: &Books, company: u8, seat: u8) -> u8
     ensures { result ≡ largest_other books.now company seat }
 {
@@ -57,34 +53,22 @@ pub fn largest_other_of(books: &Books, company: u8, seat: u8) -> u8
 pub fn certificates_held_by(books: &Books, seat: u8, companies: u8) -> u32
     ensures { result ≡ certificates_held books.now seat companies }
 {
-    let mut held: u32 = 0;
-    for before in 0..companies {
-        held += books.papers(before + 1, seat as usize + 1).count();
-    }
-    held
+    (1..=companies)
+        .map(|company| books.papers(company, seat_papers(seat)).count())
+        .sum()
 }
 
 // The lowest kind of train in the stack.
 pub fn lowest_kind_of(books: &Books) -> Option<u8>
     ensures { result ≡ lowest_kind books.now }
 {
-    for kind in 0..8u8 {
-        if books.trains(0, kind) > 0 {
-            return Some(kind);
-        }
-    }
-    None
+    (0..8).find(|&kind| books.trains(0, kind) > 0)
 }
 
 pub fn owns_train(books: &Books, company: u8) -> bool
     ensures { result ≡ has_train books.now company }
 {
-    for kind in 0..8u8 {
-        if books.trains(company as usize, kind) > 0 {
-            return true;
-        }
-    }
-    false
+    (0..8).any(|kind| books.trains(usize::from(company), kind) > 0)
 }
 
 fn is_waiting(books: &Books, company: u8) -> bool
@@ -103,13 +87,9 @@ pub fn price_now<B: RuleBook>(book: &B, books: &Books, company: u8) -> u16
 pub fn next_company_of<B: RuleBook>(book: &B, books: &Books) -> Option<u8>
     ensures { result ≡ next_company (B.meaning book.now) books.now }
 {
-    let mut best = None;
-    for before in 0..book.companies() {
-        if is_waiting(books, before + 1) {
-            best = better_of(book, books, best, before + 1);
-        }
-    }
-    best
+    (1..=book.companies())
+        .filter(|&company| is_waiting(books, company))
+        .fold(None, |best, company| better_of(book, books, best, company))
 }
 
 fn better_of<B: RuleBook>(book: &B, books: &Books, best: Option<u8>, company: u8) -> Option<u8>

@@ -8,13 +8,16 @@ use faults::table::TableRefusal;
 use holdings::owns_train;
 use judging::rounds::{bank_cannot_give, on_operating_turn};
 use ledger::books::Books;
+use ledger::reading::seat_papers;
 use rulebook::book::RuleBook;
 use rulebook::split::Split;
+
+const LARGEST_REVENUE: u16 = 9_990;
 
 fn is_payable(revenue: u16) -> bool
     ensures { result ≡ payable revenue }
 {
-    revenue <= 9_990 && revenue % 10 == 0
+    revenue <= LARGEST_REVENUE && revenue % 10 == 0
 }
 
 // The dividend of a hand, by its tenths before the payout; cash moves no tenths.
@@ -30,11 +33,9 @@ fn dividends_due(books: &Books, company: u8, dividend: u16) -> u32
     ensures value { result ≡ dividend_sum books.now company dividend 1 books.now.players }
     ensures small { result ≤ 655350 * 255 }
 {
-    let mut sum: u32 = 0;
-    for before in 0..books.players {
-        sum += dividend_of(books, company, before as usize + 2, dividend);
-    }
-    sum
+    (1..=books.players)
+        .map(|seat| dividend_of(books, company, seat_papers(seat), dividend))
+        .sum()
 }
 
 // What the company keeps, and the dividend on the tenths in its pool.
@@ -59,9 +60,7 @@ fn allow_payout(
 ) -> Result<(), TableRefusal>
     ensures { result ≡ payout_granted books.now company revenue split }
 {
-    let Some(split) = split else {
-        return Err(TableRefusal::NoSuchMode);
-    };
+    let split = split.ok_or(TableRefusal::NoSuchMode)?;
     if revenue > 0 && !owns_train(books, company) {
         return Err(TableRefusal::NoTrain);
     }

@@ -35,10 +35,7 @@ pub fn is_helped(books: &Books, company: u8, price: u16) -> bool
 fn is_lowest(books: &Books, kind: u8) -> bool
     ensures { result ≡ same_kind (lowest_kind books.now) kind }
 {
-    match lowest_kind_of(books) {
-        Some(lowest) => lowest == kind,
-        None => false,
-    }
+    lowest_kind_of(books) == Some(kind)
 }
 
 // The first carry of cash is the director's, if he has to help, else the company's.

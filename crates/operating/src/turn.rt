@@ -11,6 +11,8 @@ use judging::rounds::on_operating_turn;
 use ledger::books::Books;
 use rulebook::book::RuleBook;
 
+const LARGEST_BILL: u16 = 1_000;
+
 pub fn judge_bill(books: &Books, card: u16, company: u8, amount: u16) -> Result<(), TableRefusal>
     ensures { result ≡ bill_answer books.now card company amount }
 {
@@ -18,7 +20,7 @@ pub fn judge_bill(books: &Books, card: u16, company: u8, amount: u16) -> Result<
     if books.operating.paid {
         return Err(TableRefusal::AlreadyPaidOut);
     }
-    if amount == 0 || amount > 1_000 {
+    if !(1..=LARGEST_BILL).contains(&amount) {
         return Err(TableRefusal::AmountOutOfRange);
     }
     can_carry(&books.cash, books.treasury(company), 0, u32::from(amount))?;
@@ -28,20 +30,14 @@ pub fn judge_bill(books: &Books, card: u16, company: u8, amount: u16) -> Result<
 fn marks_of_director(books: &Books, company: u8) -> i32
     ensures { result ≡ director_marks books.now (director books.now company) }
 {
-    match director_of(books, company) {
-        Some(seat) => books.marks(usize::from(seat)),
-        None => 0,
-    }
+    director_of(books, company).map_or(0, |seat| books.marks(usize::from(seat)))
 }
 
 // Could the company and its director together pay for the lowest train?
 fn reaches_train<B: RuleBook>(book: &B, books: &Books, company: u8) -> bool
     ensures { result ≡ can_reach (B.meaning book.now) books.now company (lowest_kind books.now) }
 {
-    match lowest_kind_of(books) {
-        Some(kind) => reaches_kind(book, books, company, kind),
-        None => false,
-    }
+    lowest_kind_of(books).is_some_and(|kind| reaches_kind(book, books, company, kind))
 }
 
 fn reaches_kind<B: RuleBook>(book: &B, books: &Books, company: u8, kind: u8) -> bool

@@ -1,16 +1,20 @@
-use Rattle.std.proofs.Common.{◌≡◌, ◌+◌, ap, ◌∙◌, arith}
-use Rattle.kinds.specs.Papers.{certificate_count}
-use Rattle.kinds.specs.declared.papers.Papers.{Papers}
-use Rattle.ledger.specs.Holdings.{papers_at}
-use Rattle.holdings.proofs.Steps.{at_most_nine, company_more}
+use Rattle.std.proofs.Common.{◌∙◌, rules, arith}
+use Rattle.std.proofs.lemmas.Iterator.{YieldsList-from_map}
+use Rattle.std.proofs.lemmas.Iterator.Consumers.{sum_from_yields_List, fits_from_yields_list}
+use Rattle.holdings.proofs.Inclusive.{counted}
+use Rattle.holdings.proofs.Steps.{at_company, all_held, few_held}
 use Rattle.holdings.proofs.certificates_held_by.Goals as goal
 
-pub loop-before-preserved : goal.loop-before-preserved
-loop-before-preserved c =
+pub sum-requires-clause-fits : goal.sum-requires-clause-fits
+sum-requires-clause-fits c =
     let s = c.args.books.now in
-    let seat = c.args.seat in
-    let k = c.loop-before.before in
-    let more : c.count-held.result ≡ certificate_count (papers_at s (k + 1) (seat + 1)) = c.count-held.ensures ∙ ap (λ (p : Papers). certificate_count p) c.papers.ensures in
-    let all = company_more s seat k in
-    let few = at_most_nine (papers_at s (k + 1) (seat + 1)) in
-    (omega (arith, c.loop-before.invariant.0, more, all), omega (arith, c.loop-before.invariant.1, more, few))
+    let new = c.new.ensures in
+    let few = few_held s c.args.seat 1 c.args.companies in
+    fits_from_yields_list c.map.result _ (YieldsList-from_map {s = c.map.result} _ (at_company s c.args.seat) (counted c.args.companies c.map.ensures.source new.start new.end new.exhausted) c.map.ensures.closure (λ x r q k. search rules)) (omega (arith, few))
+
+pub returns : goal.returns
+returns c =
+    let s = c.args.books.now in
+    let new = c.new.ensures in
+    sum_from_yields_List c.map.result c.sum.result c.sum.ensures.ran (YieldsList-from_map {s = c.map.result} _ (at_company s c.args.seat) (counted c.args.companies c.map.ensures.source new.start new.end new.exhausted) c.map.ensures.closure (λ x r q k. search rules))
+    ∙ all_held s c.args.seat c.args.companies

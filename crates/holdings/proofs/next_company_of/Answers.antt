@@ -1,14 +1,15 @@
-use Rattle.holdings.proofs.Steps.{waits, does_not_wait}
+use Rattle.std.proofs.Common.{None, ◌∙◌, rules}
+use borrow.Author.Tests.{tests}
+use Rattle.std.proofs.lemmas.Iterator.Consumers.{YieldsList-from_filter, fold_from_yields_List}
+use Rattle.ledger.specs.Holdings.{waiting, better}
+use Rattle.holdings.proofs.Inclusive.{counted}
+use Rattle.holdings.proofs.Steps.{next_found}
 use Rattle.holdings.proofs.next_company_of.Goals as goal
-use Rattle.holdings.proofs.next_company_of.Goals.{then-is_waiting, else-is_waiting}
 
-pub loop-before-preserved : goal.loop-before-preserved
-loop-before-preserved g c =
+pub returns : goal.returns
+returns g c =
     let b = g.B.RuleBook.meaning c.args.book.now in
     let s = c.args.books.now in
-    let l = c.loop-before in
-    let test = c.is_waiting in
-    elim c.if-is_waiting.branch [
-      | then-is_waiting w ↦ waits b s l.before l.best l.invariant c.if-is_waiting.best test.result test.ensures w.better_of-best.result w.if-is_waiting.true w.best-is w.better_of-best.ensures
-      | else-is_waiting w ↦ does_not_wait b s l.before l.best l.invariant c.if-is_waiting.best test.result test.ensures w.if-is_waiting.false w.best-is
-    ]
+    let new = c.new.ensures in
+    fold_from_yields_List _ (better b s) None _ c.fold.ensures.ran (YieldsList-from_filter {s = c.filter.result} _ (waiting s) (counted b.companies c.filter.ensures.source new.start (new.end ∙ c.companies.ensures) new.exhausted) c.filter.ensures.closure (λ x t q k. search (rules, tests))) (λ a x t q k. search rules)
+    ∙ next_found b s b.companies

@@ -1,17 +1,22 @@
-use Rattle.std.proofs.Common.{◌≡◌, ℕ, ◌+◌, ◌*◌, ◌≤◌, ap, ◌∙◌, arith}
-use Rattle.ledger.specs.Holdings.{tenths_at}
-use Rattle.operating.proofs.Dividends.{due_more}
+use Rattle.std.proofs.Common.{◌≤◌, ◌∙◌, rules, arith}
+use Rattle.std.proofs.lemmas.Iterator.{YieldsList-from_map}
+use Rattle.std.proofs.lemmas.Iterator.Consumers.{sum_from_yields_List, fits_from_yields_list}
+use Rattle.holdings.proofs.Inclusive.{counted}
+use Rattle.operating.proofs.Dividends.{due, all_due, few_due}
 use Rattle.operating.proofs.payout.dividends_due.Goals as goal
 
-two : (k : ℕ) → k + 2 ≡ k + 1 + 1
-two k = omega arith
+pub sum-requires-clause-fits : goal.sum-requires-clause-fits
+sum-requires-clause-fits c =
+    let a = c.args in
+    let s = a.books.now in
+    let new = c.new.ensures in
+    fits_from_yields_list c.map.result _ (YieldsList-from_map {s = c.map.result} _ (due s a.company a.dividend) (counted s.players c.map.ensures.source new.start new.end new.exhausted) c.map.ensures.closure (λ x r q k. search rules))
+    (omega (arith, few_due s a.company a.dividend 1 s.players (omega arith)))
 
-more : (sum one k : ℕ) → sum ≤ 655350 * k → one ≤ 655350 → sum + one ≤ 655350 * (k + 1)
-more sum one k h g = omega arith
-
-pub loop-before-preserved : goal.loop-before-preserved
-loop-before-preserved c =
-    let l = c.loop-before in (
-      due_more c.args.books.now c.args.company c.args.dividend l.before l.sum c.dividend_of-sum.result c.loop-before-test.true (c.dividend_of-sum.ensures.value ∙ ap (λ n. c.args.dividend * tenths_at c.args.books.now c.args.company n) (two l.before)) l.invariant.0,
-      more l.sum c.dividend_of-sum.result l.before l.invariant.1 c.dividend_of-sum.ensures.small,
-    )
+pub returns : goal.returns
+returns c =
+    let a = c.args in
+    let s = a.books.now in
+    let new = c.new.ensures in
+    let value = sum_from_yields_List c.map.result c.sum.result c.sum.ensures.ran (YieldsList-from_map {s = c.map.result} _ (due s a.company a.dividend) (counted s.players c.map.ensures.source new.start new.end new.exhausted) c.map.ensures.closure (λ x r q k. search rules)) in
+    record { value = value ∙ all_due s a.company a.dividend 1 s.players; small = omega (arith, value, few_due s a.company a.dividend 1 s.players (omega arith)) }
