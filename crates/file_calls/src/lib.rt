@@ -77,15 +77,6 @@ fn next_card(card: u16, record: Record) -> u16
     }
 }
 
-fn push_call(calls: &mut Vec<Call>, call: Option<Call>) -> Result<(), AllocError>
-    ensures { OnOk result (calls.new.items ≡ calls.old.items ++ listed call) }
-{
-    if let Some(call) = call {
-        calls.push(call)?;
-    }
-    Ok(())
-}
-
 // The calls of all records up to the file's end or the first that is no record; the only error is want of memory.
 pub fn calls_of(heap: Global, file: &[u8]) -> Result<Vec<Call>, AllocError>
     ensures calls { IfOk result (λ v. v.items ≡ file_calls file.now) }
@@ -97,7 +88,7 @@ pub fn calls_of(heap: Global, file: &[u8]) -> Result<Vec<Call>, AllocError>
     while place < file.len() {
         match read(file, place) {
             Ok((record, next)) => {
-                push_call(&mut calls, call_of(card, record))?;
+                calls.extend(call_of(card, record))?;
                 card = next_card(card, record);
                 place = next;
             }

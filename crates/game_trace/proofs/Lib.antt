@@ -1,3 +1,3 @@
-mod FirstRecord
+mod Starts
 mod Stepping
 mod Crossing

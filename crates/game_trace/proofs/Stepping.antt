@@ -1,5 +1,6 @@
 -- What is left to tell at a place of a file.
-use Rattle.std.proofs.Common.{◌≡◌, ℕ, ◌+◌, ◌<◌, ◌≤◌, List, ◌++◌, length, IfOk, Some, None, Ok, Err, Option, Result, sym, ap, ◌∙◌, subst, append_assoc, append-nil}
+use Rattle.std.proofs.Common.{◌≡◌, ℕ, ◌+◌, ◌<◌, ◌≤◌, List, ◌++◌, length, IfOk, Some, None, Ok, Err, Option, Result, sym, refl, ap, ◌∙◌, subst, append_assoc, append-nil}
+use Rattle.std.specs.Result.{result_ok}
 use Rattle.faults.specs.declared.file.FileFault.{FileFault}
 use Rattle.entries.specs.Entry.{Entry}
 use Rattle.entries.specs.Reading.{read_at}
@@ -12,10 +13,13 @@ use Rattle.ledger.specs.declared.books.Books.{Books}
 use Rattle.crossings.specs.Views.{listed}
 use Rattle.crossings.specs.declared.crossing.Crossing.{Crossing}
 use Rattle.replay.specs.Calls.{call_of}
+use Rattle.replay.specs.Cards.{card_held, fault_told}
 use Rattle.replay.specs.Playing.{Played, record_played}
+use Rattle.replay.specs.declared.card.Card.{Card}
+use Rattle.replay.specs.declared.card.Refused.{Refused}
 use Rattle.trace_text.specs.Words.{refusal_line}
 use Rattle.trace_text.specs.Pushed.{Pushed}
-use Rattle.game_trace.specs.Steps.{call_crossings, crossing_lines, record_lines, unless_fault, step_lines, going, Stepped}
+use Rattle.game_trace.specs.Steps.{call_crossings, crossing_lines, record_lines, unless_fault, step_lines, going, held, Stepped}
 use Rattle.game_trace.specs.Trace.{tell_on, all_traced}
 
 -- `all` is the text of the whole, `text` what is told so far, with the books `s` and the card that is held now
@@ -57,19 +61,18 @@ module _ (b : Book) (file : List ℕ) (place n : ℕ) (fuel : length file ≤ pl
             ap (λ (x : Option (Books × ℕ)). longer ++ tell_on x (λ u held. all_traced b u held (reading_by on.0 file next))) (sym is) ∙ on.2,
           )
 
--- a record that the table granted, and one that it refused
-module _ (b : Book) (s : Books) (card place : ℕ) (e : Entry) (before later : List ℕ) (t : Books) (held : ℕ) where
-  pub granted_step : (t, held, None) ≡ record_played b s card place e → Pushed before later (record_lines b s card place e) → Stepped b s card place e before later (Some (t, held))
-  granted_step p told = record {
-    told = subst (Pushed before later) (ap (λ (q : Played). unless_fault q.2 (record_lines b s card place e)) p) told;
-    made = ap going p;
-  }
-
-  pub refused_step : (fault : FileFault) → (t, held, Some fault) ≡ record_played b s card place e → Pushed before later (refusal_line fault) → Stepped b s card place e before later None
-  refused_step fault p told = record {
-    told = subst (Pushed before later) (ap (λ (q : Played). unless_fault q.2 (record_lines b s card place e)) p) told;
-    made = ap going p;
-  }
+-- a record that was made into a call, granted or refused
+pub made_step : (b : Book) (s : Books) (card place : ℕ) (e : Entry) (before later : List ℕ) (t : Books) (r : Result Card Refused) (o : Option Card) → o ≡ result_ok r
+    → (t, card_held r, fault_told r) ≡ record_played b s card place e → Pushed before later (unless_fault (fault_told r) (record_lines b s card place e))
+    → Stepped b s card place e before later (held t o)
+made_step b s card place e before later t r o is p told = record {
+  told = subst (Pushed before later) (ap (λ (q : Played). unless_fault q.2 (record_lines b s card place e)) p) told;
+  made = ap (held t) is ∙ still t r ∙ ap going p;
+}
+  where
+    still : (t : Books) (r : Result Card Refused) → held t (result_ok r) ≡ going (t, card_held r, fault_told r)
+    still t (Ok next) = refl
+    still t (Err refused) = refl
 
 -- the lines of a granted record, from what crossed
 pub granted_lines : (b : Book) (s u : Books) (card place : ℕ) (e : Entry) (xs ys : List Crossing) → u ≡ s → xs ≡ ys → listed ys ≡ call_crossings b s (call_of card e)

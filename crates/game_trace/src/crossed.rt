@@ -17,15 +17,6 @@ use std::alloc::{AllocError, Global};
 use table::table::Table;
 use trace_text::push_crossing;
 
-fn number_of(card: &Card) -> u16
-    ensures { result ≡ number_of card.now }
-{
-    match card {
-        Card::Stock(card) => card.number(),
-        Card::Operating(card) => card.number(),
-    }
-}
-
 // What the call of a record would move; the only error is want of memory.
 pub(crate) fn record_crossings<B: RuleBook>(
     heap: Global,
@@ -35,7 +26,7 @@ pub(crate) fn record_crossings<B: RuleBook>(
 ) -> Result<Vec<Crossing>, AllocError>
     ensures { IfOk result (λ v. listed v.items ≡ call_crossings (B.meaning table.now.book) table.now.books (call_of (number_of card.now) (view «record»))) }
 {
-    match call_of(number_of(card), record) {
+    match call_of(card.number(), record) {
         Some(call) => crossings_of(heap, table.book(), table.books(), call),
         None => Ok(Vec::new(heap)),
     }

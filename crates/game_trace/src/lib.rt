@@ -2,7 +2,6 @@
 #![tactic(auto)]
 
 mod crossed;
-mod starting;
 mod steps;
 mod whole;
 

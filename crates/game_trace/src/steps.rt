@@ -3,9 +3,9 @@ ghost use Rattle.std.specs.Prelude.{◌≡◌, ◌++◌, IfOk, string_bytes, OnO
 ghost use Rattle.entries.specs.Entry.{view};
 ghost use Rattle.listing.specs.Lines.{line};
 ghost use Rattle.crossings.specs.Views.{listed};
-ghost use Rattle.replay.specs.Cards.{number_of};
+ghost use Rattle.replay.specs.Cards.{number_of, fault_told};
 ghost use Rattle.trace_text.specs.Pushed.{Pushed};
-ghost use Rattle.game_trace.specs.Steps.{crossing_lines, held, Stepped};
+ghost use Rattle.game_trace.specs.Steps.{crossing_lines, unless_fault, held, Stepped};
 ghost use Rattle.game_trace.specs.Trace.{traced_from};
 
 use crate::crossed::{push_crossings, record_crossings};
@@ -13,24 +13,31 @@ use crossings::crossing::Crossing;
 use entries::record::Record;
 use gamefile::reading::read;
 use listing::push_record;
-use replay::card::Card;
+use replay::card::{Card, Refused};
 use replay::records::make_record;
 use rulebook::book::RuleBook;
 use std::alloc::{AllocError, Global};
 use table::table::Table;
 use trace_text::push_refusal;
 
-fn push_granted(
+// The lines of a record that was granted, or that of its fault.
+fn push_made(
     text: &mut String,
     place: usize,
     record: Record,
     players: u8,
     crossings: &[Crossing],
+    made: &Result<Card, Refused>,
 ) -> Result<(), AllocError>
-    ensures { OnOk result (Pushed (string_bytes text.old) (string_bytes text.new) (line place (view «record») ++ crossing_lines players (listed crossings.now))) }
+    ensures { OnOk result (Pushed (string_bytes text.old) (string_bytes text.new) (unless_fault (fault_told made.now) (line place (view «record») ++ crossing_lines players (listed crossings.now)))) }
 {
-    push_record(text, place, record)?;
-    push_crossings(text, players, crossings)
+    match made {
+        Ok(_) => {
+            push_record(text, place, record)?;
+            push_crossings(text, players, crossings)
+        }
+        Err(refused) => push_refusal(text, refused.fault),
+    }
 }
 
 // Makes the call of a record and tells what came of it. Answers the card that is then held, or none after a fault.
@@ -47,16 +54,9 @@ fn push_step<B: RuleBook>(
 {
     let players = table.books().players;
     let crossings = record_crossings(heap, table, &card, record)?;
-    match make_record(table, card, place, record) {
-        Ok(next) => {
-            push_granted(text, place, record, players, &crossings)?;
-            Ok(Some(next))
-        }
-        Err(back) => {
-            push_refusal(text, back.0)?;
-            Ok(None)
-        }
-    }
+    let made = make_record(table, card, place, record);
+    push_made(text, place, record, players, &crossings, &made)?;
+    Ok(made.ok())
 }
 
 // The records of a file from a place on, to the file's end or its first fault.

@@ -2,19 +2,17 @@ ghost use Rattle.std.specs.Prelude.{◌≡◌, IfOk, string_bytes, OnOk};
 ghost use Rattle.trace_text.specs.Pushed.{Pushed};
 ghost use Rattle.game_trace.specs.Trace.{trace_of};
 
-use crate::starting::start_game;
 use crate::steps::push_steps;
 use listing::push_record;
-use replay::game::Game;
+use replay::game::{Game, Opened};
 use std::alloc::{AllocError, Global};
 use trace_text::push_refusal;
 
 fn push_trace(heap: Global, text: &mut String, file: &[u8]) -> Result<(), AllocError>
     ensures { OnOk result (Pushed (string_bytes text.old) (string_bytes text.new) (trace_of file.now)) }
 {
-    match start_game(file) {
-        Ok(started) => {
-            let (game, record, next) = started;
+    match Game::open(file) {
+        Ok(Opened { game, record, next }) => {
             let Game { mut table, card } = game;
             push_record(text, 0, record)?;
             push_steps(heap, text, &mut table, card, file, next)

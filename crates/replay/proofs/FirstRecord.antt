@@ -1,32 +1,27 @@
--- What a file leaves, by its first record.
-use Rattle.std.proofs.Common.{◌≡◌, ℕ, ◌<◌, ◌≤◌, List, ◌∷◌, length, Ok, Err, ap, ◌∙◌, arith}
-use Rattle.std.proofs.lemmas.Bool.{le-ltb}
+-- A whole file is read by its first record, and then by the others.
+use Rattle.std.proofs.Common.{◌≡◌, ℕ, ◌<◌, Bool, true, false, cond, eqb, List, [], ◌∷◌, length, None, Ok, Err, Result, refl, ap, ◌∙◌, arith}
+use Rattle.std.proofs.lemmas.Bool.{eqb-true, eqb-false}
 use Rattle.faults.specs.declared.file.FileFault.{FileFault}
-use Rattle.faults.specs.declared.file.FileRefusal.TheVariants.{OpenMisplaced}
 use Rattle.entries.specs.Entry.{Entry}
 use Rattle.entries.specs.Reading.{read_at}
-use Rattle.entries.specs.Whole.{Outcome, reading_by, reading}
+use Rattle.entries.specs.Whole.{Outcome, onward, reading_by, reading}
 use Rattle.entries.proofs.Steps.{at_end, stops, goes_on}
-use Rattle.replay.specs.Whole.{no_game, refused_at, from_first, from_records, replayed}
 use Rattle.replay.proofs.Forward.{forward, same_reading}
 
-module _ (file : List ℕ) (short : length file ≤ 65536) where
-  pub by_reading : replayed file ≡ from_records (reading file).0 (reading file).1
-  by_reading = rw (le-ltb 65536 (length file) short)
+module _ (file : List ℕ) where
+  abbrev others : ℕ → Outcome
+  others next = reading_by (length file) file next
 
-  pub by_outcome : (o : Outcome) → reading file ≡ o → replayed file ≡ from_records o.0 o.1
-  by_outcome o e = by_reading ∙ ap (λ (p : Outcome). from_records p.0 p.1) e
+  by_first : 0 < length file → (r : Result (Entry × ℕ) FileFault) → read_at file 0 ≡ r → reading file ≡ onward 0 r others
+  by_first some (Ok x) h =
+      let on = goes_on file 0 some (length file) x.0 x.1 (omega arith) h (forward file 0 x.0 x.1 h) in
+      let same = same_reading file on.0 (length file) x.1 on.1 (omega arith) in
+      on.2 ∙ ap (λ (o : Outcome). ((0, x.0) ∷ o.0, o.1)) same
+  by_first some (Err fault) h = stops file 0 some (length file) fault (omega arith) h
 
-  pub nothing_there : length file ≡ 0 → replayed file ≡ refused_at 0 OpenMisplaced
-  nothing_there e = by_outcome _ (at_end (length file) file 0 (omega arith))
+  by_test : (t : Bool) → eqb (length file) 0 ≡ t → reading file ≡ cond t ([], None) (onward 0 (read_at file 0) others)
+  by_test true e = at_end (length file) file 0 (omega (arith, eqb-true _ _ e))
+  by_test false e = by_first (omega (arith, eqb-false _ _ e)) (read_at file 0) refl
 
-  module _ (some : 0 < length file) where
-    pub unreadable : (fault : FileFault) → read_at file 0 ≡ Err fault → replayed file ≡ no_game fault
-    unreadable fault h = by_outcome _ (stops file 0 some (length file) fault (omega arith) h)
-
-    pub begins : (e : Entry) (next : ℕ) → read_at file 0 ≡ Ok (e, next)
-        → replayed file ≡ from_first 0 (reading_by (length file) file next).0 (reading_by (length file) file next).1 e
-    begins e next h =
-        let on = goes_on file 0 some (length file) e next (omega arith) h (forward file 0 e next h) in
-        let same = same_reading file on.0 (length file) next on.1 (omega arith) in
-        by_outcome _ (on.2 ∙ ap (λ (o : Outcome). ((0, e) ∷ o.0, o.1)) same)
+  pub reads_first : reading file ≡ cond (eqb (length file) 0) ([], None) (onward 0 (read_at file 0) others)
+  reads_first = by_test (eqb (length file) 0) refl

@@ -1,7 +1,7 @@
 mod Left
 pub mod Forward
-mod FirstRecord
-pub mod Opens
+pub mod FirstRecord
+mod Opens
 pub mod OwnCard
 mod Lived
 mod Ends

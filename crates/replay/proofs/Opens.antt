@@ -1,78 +1,70 @@
--- What the first record of a file leads to: no open, an unknown book, a refused open, a table.
-use Rattle.std.proofs.Common.{◌≡◌, ℕ, ◌<◌, ◌≤◌, List, length, Some, None, Ok, Err, Option, Result, sym, refl, ap, ◌∙◌, subst, arith, MatchResult}
+-- What a file leaves, by what its first record opens.
+use Rattle.std.proofs.Common.{◌≡◌, ℕ, Bool, true, false, cond, eqb, ltb, List, [], length, Some, None, Ok, Err, Option, Result, refl, ap, ◌∙◌}
 use Rattle.faults.specs.Layers.{in_call, at_place}
 use Rattle.faults.specs.declared.file.FileFault.{FileFault}
-use Rattle.faults.specs.declared.file.FileRefusal.TheVariants.{OpenMisplaced, UnknownBook, Table}
-use Rattle.faults.specs.declared.table.CallName.TheVariants.{Open as open_name}
-use Rattle.faults.specs.declared.table.TableFault.{TableFault}
-use Rattle.entries.specs.Entry.{opens, view}
+use Rattle.faults.specs.declared.file.FileRefusal.TheVariants.{OpenMisplaced, FileTooLong}
+use Rattle.faults.specs.declared.table.CallName.TheVariants.{Open}
+use Rattle.entries.specs.Entry.{Entry, opens, sells, buys, ends, closes, bills, pays_out, buys_train, is_done, reopens}
 use Rattle.entries.specs.Reading.{read_at}
-use Rattle.entries.specs.Whole.{Outcome, reading_by}
-use Rattle.entries.specs.declared.record.Record.{Record}
-use Rattle.entries.specs.declared.record.Record.TheVariants.{Open, Sell, Buy, End, Close, Bill, Payout, Train, Done, Reopen}
+use Rattle.entries.specs.Whole.{Outcome, onward, reading_by, reading}
 use Rattle.catalogue.specs.Printed.{printed_meaning, numbered}
 use Rattle.catalogue.specs.declared.books.PrintedBook.{PrintedBook}
 use Rattle.ledger.specs.Opening.{open_answer}
 use Rattle.ledger.specs.declared.books.Books.{Books}
-use Rattle.replay.specs.Playing.{Played, played_from}
-use Rattle.replay.specs.Whole.{Replayed, no_game, refused_at, game_played, from_opening, from_book, from_first, replayed}
-use Rattle.replay.proofs.FirstRecord.{begins}
+use Rattle.replay.specs.Games.{opened_then}
+use Rattle.replay.specs.Opening.{SeenOpening, no_opening, opening_by_table, opening_by_book, opening_by_entry, opening_by_first, opening}
+use Rattle.replay.specs.Playing.{Played}
+use Rattle.replay.specs.Whole.{Replayed, game_played, refused_at, from_opening, from_book, from_first, from_records, replayed}
+use Rattle.replay.proofs.FirstRecord.{reads_first}
 
--- a refusal comes up with its place, and a granted answer as it is
-pub refused_up : {T : Type 0} (P : T → Type 0) (a : Result Books TableFault) (place : ℕ) (fault : FileFault) (r : Result T TableFault) → MatchResult r P (λ e. a ≡ Err e) → at_place place r ≡ Err fault → at_place place a ≡ Err fault
-refused_up P a place fault (Ok v) told up = let z : ◌≡◌ {A = ℕ} 0 1 = cc in absurd (omega arith)
-refused_up P a place fault (Err e) told up =
-    let same : record { refusal = Table e; place = place } ≡ fault = cc in
-    ap (at_place place) told ∙ ap (λ (f : FileFault). Err f) same
+module _ (file : List ℕ) where
+  module _ (next : ℕ) where
+    abbrev rest : Outcome
+    rest = reading_by (length file) file next
 
-pub granted_up : {T : Type 0} (P : T → Type 0) (a : Result Books TableFault) (place : ℕ) (v : T) (r : Result T TableFault) → MatchResult r P (λ e. a ≡ Err e) → at_place place r ≡ Ok v → P v
-granted_up P a place v (Ok w) told up = let same : w ≡ v = cc in subst P same told
-granted_up P a place v (Err e) told up = let z : ◌≡◌ {A = ℕ} 0 1 = cc in absurd (omega arith)
+    by_table : (e : Entry) (book : PrintedBook) (r : Result Books FileFault) → opened_then file (opening_by_table next e book r) ≡ from_opening 0 rest.0 rest.1 book r
+    by_table e book (Ok s) = refl
+    by_table e book (Err fault) = refl
 
--- the first record stands at 0, and the others begin at `next`
-module _ (file : List ℕ) (short : length file ≤ 65536) (some : 0 < length file) (next : ℕ) (r : Record) (read : Ok (view r, next) ≡ read_at file 0) where
-  abbrev rest : Outcome
-  rest = reading_by (length file) file next
+    by_book : (e : Entry) (o : Option PrintedBook) (players : ℕ) → opened_then file (opening_by_book next e o players) ≡ from_book 0 rest.0 rest.1 o players
+    by_book e None players = refl
+    by_book e (Some book) players = by_table e book (at_place 0 (in_call Open (open_answer (printed_meaning book) players)))
 
-  pub not_open : ((book players : ℕ) → r ≡ Open book players → ⊥) → replayed file ≡ refused_at 0 OpenMisplaced
-  not_open other = begins file short some (view r) next (sym read) ∙ by r other
-    where
-      by : (d : Record) → ((book players : ℕ) → d ≡ Open book players → ⊥) → from_first 0 rest.0 rest.1 (view d) ≡ refused_at 0 OpenMisplaced
-      by (Open book players) no_open = absurd (no_open book players refl)
-      by (Sell seat company tenths) no_open = refl
-      by (Buy seat company source par_space) no_open = refl
-      by (End seat) no_open = refl
-      by Close no_open = refl
-      by (Bill company amount) no_open = refl
-      by (Payout company mode revenue) no_open = refl
-      by (Train company kind) no_open = refl
-      by (Done company) no_open = refl
-      by Reopen no_open = refl
+    by_entry : (e : Entry) → opened_then file (opening_by_entry next e) ≡ from_first 0 rest.0 rest.1 e
+    by_entry (opens number players) = by_book (opens number players) (numbered number) players
+    by_entry (sells seat company tenths) = refl
+    by_entry (buys seat company source par_space) = refl
+    by_entry (ends seat) = refl
+    by_entry closes = refl
+    by_entry (bills company amount) = refl
+    by_entry (pays_out company mode revenue) = refl
+    by_entry (buys_train company kind) = refl
+    by_entry (is_done company) = refl
+    by_entry reopens = refl
 
-  module _ (number players : ℕ) (open_is : r ≡ Open number players) where
-    with_book : (o : Option PrintedBook) → numbered number ≡ o → replayed file ≡ from_book 0 rest.0 rest.1 o players
-    with_book o e =
-        begins file short some (opens number players) next (sym read ∙ ap (λ (d : Record). Ok (view d, next)) open_is)
-        ∙ ap (λ (p : Option PrintedBook). from_book 0 rest.0 rest.1 p players) e
+  by_first : (r : Result (Entry × ℕ) FileFault) → let o = onward 0 r (reading_by (length file) file) in opened_then file (opening_by_first r) ≡ from_records o.0 o.1
+  by_first (Ok x) = by_entry x.1 x.0
+  by_first (Err fault) = refl
 
-    pub unknown_book : numbered number ≡ None → replayed file ≡ refused_at 0 UnknownBook
-    unknown_book e = with_book None e
+  by_size : (t : Bool) → let o = cond t ([], None) (onward 0 (read_at file 0) (reading_by (length file) file)) in
+      opened_then file (cond t (no_opening OpenMisplaced) (opening_by_first (read_at file 0))) ≡ from_records o.0 o.1
+  by_size true = refl
+  by_size false = by_first (read_at file 0)
 
-    module _ (book : PrintedBook) (known : numbered number ≡ Some book) where
-      abbrev answered : Result Books TableFault
-      answered = in_call open_name (open_answer (printed_meaning book) players)
+  by_records : opened_then file (cond (eqb (length file) 0) (no_opening OpenMisplaced) (opening_by_first (read_at file 0))) ≡ from_records (reading file).0 (reading file).1
+  by_records = rw reads_first (by_size (eqb (length file) 0))
 
-      pub open_refused : (fault : FileFault) → at_place 0 answered ≡ Err fault → replayed file ≡ no_game fault
-      open_refused fault e = with_book (Some book) known ∙ ap (from_opening 0 rest.0 rest.1 book) e
+  by_length : (t : Bool) → opened_then file (cond t (no_opening FileTooLong) (cond (eqb (length file) 0) (no_opening OpenMisplaced) (opening_by_first (read_at file 0)))) ≡ cond t (refused_at 0 FileTooLong) (from_records (reading file).0 (reading file).1)
+  by_length true = refl
+  by_length false = by_records
 
-      -- the table has the book that was named, and its card is that of round 1
-      pub open_granted : (last : PrintedBook) (s : Books) (card : ℕ) → answered ≡ Ok s → last ≡ book → card ≡ 1
-          → game_played last (played_from (printed_meaning last) s card file next) ≡ replayed file
-      open_granted last s card e same one =
-          ap (λ (k : PrintedBook). game_played k (played_from (printed_meaning k) s card file next)) same
-          ∙ ap (λ (n : ℕ). game_played book (played_from (printed_meaning book) s n file next)) one
-          ∙ sym (with_book (Some book) known ∙ ap (λ (a : Result Books TableFault). from_opening 0 rest.0 rest.1 book (at_place 0 a)) e)
+  pub by_opening : opened_then file (opening file) ≡ replayed file
+  by_opening = by_length (ltb 65536 (length file))
+
+-- said of what an opening answers
+pub opened_replay : (file : List ℕ) (r : Result SeenOpening FileFault) → r ≡ opening file → opened_then file r ≡ replayed file
+opened_replay file r e = ap (opened_then file) e ∙ by_opening file
 
 -- the same game, said of the book and the card that came back
 pub same_game : (book last : PrintedBook) (p q : Played) (r : Replayed) → last ≡ book → p ≡ q → game_played book q ≡ r → game_played last p ≡ r
-same_game book last p q r same ends told = ap (λ (k : PrintedBook). game_played k p) same ∙ ap (game_played book) ends ∙ told
+same_game book last p q r same ended told = ap (λ (k : PrintedBook). game_played k p) same ∙ ap (game_played book) ended ∙ told

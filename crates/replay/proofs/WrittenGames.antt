@@ -1,14 +1,14 @@
 -- The file of a granted game, and files that go on after it.
 use Rattle.std.proofs.Common.{◌≡◌, ℕ, ◌+◌, ◌<◌, ◌≤◌, Bool, List, [], ◌∷◌, ◌++◌, map, length, Some, None, Ok, Err, fold, Option, sym, refl, ap, ◌∙◌, append-nil, arith, length-append}
 use Rattle.std.proofs.lemmas.List.{drop_at}
-use Rattle.std.proofs.lemmas.Bool.{cond_both}
+use Rattle.std.proofs.lemmas.Bool.{cond_both, le-ltb}
 use Rattle.faults.specs.Layers.{in_call, at_place}
 use Rattle.faults.specs.declared.file.FileFault.{FileFault}
 use Rattle.faults.specs.declared.file.FileRefusal.{FileRefusal}
 use Rattle.faults.specs.declared.table.CallName.TheVariants.{Open as open_name}
 use Rattle.entries.specs.Entry.{Entry, opens}
 use Rattle.entries.specs.Reading.{first, from_place, read_at}
-use Rattle.entries.specs.Whole.{Outcome, reading_by, placed_from}
+use Rattle.entries.specs.Whole.{Outcome, reading_by, reading, placed_from}
 use Rattle.entries.specs.Writing.{writing, size}
 use Rattle.entries.proofs.OneWriting.{first_written}
 use Rattle.entries.proofs.Steps.{at_end, stops, goes_on}
@@ -24,8 +24,7 @@ use Rattle.ledger.specs.declared.call.Call.TheVariants.{Sell, Buy, End, Close, B
 use Rattle.replay.specs.Calls.{call_of, name_of, belongs}
 use Rattle.replay.specs.Laws.{entry_of, AllGranted, GrantedGame, books_of, file_of, FilesOfGames}
 use Rattle.replay.specs.Playing.{Played, fault_of, next_card, asked, record_played, play_on, played, all_played}
-use Rattle.replay.specs.Whole.{game_played, from_opening, from_book, replayed}
-use Rattle.replay.proofs.FirstRecord.{by_outcome}
+use Rattle.replay.specs.Whole.{game_played, from_opening, from_book, from_records, replayed}
 use Rattle.replay.proofs.Fronts.{reads_front}
 use Rattle.replay.proofs.OwnCard.{granted_played}
 
@@ -37,6 +36,9 @@ calls_played b (c ∷ calls) s place rest ending ok =
     let records = placed_from (place + size (entry_of c)) (map entry_of calls) ++ rest in
     let later : Books → ℕ → Played = λ t next. played b t next records ending in
     ap (λ (p : Played). play_on p later) (granted_played b s c place ok.0) ∙ calls_played b calls (after b s c) (place + size (entry_of c)) rest ending ok.1
+
+by_outcome : (file : List ℕ) → length file ≤ 65536 → (o : Outcome) → reading file ≡ o → replayed file ≡ from_records o.0 o.1
+by_outcome file short o e = rw (le-ltb 65536 (length file) short) (ap (λ (p : Outcome). from_records p.0 p.1) e)
 
 -- what follows the writings of a granted game is played from its books
 goes_on_from : (g : GrantedGame) (rest : List ℕ) → let file = file_of g ++ rest in length file ≤ 65536

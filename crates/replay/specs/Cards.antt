@@ -3,16 +3,17 @@ use Rattle.std.specs.Prelude.{ℕ, Some, None, Ok, Err, Option, Result}
 use Rattle.faults.specs.declared.file.FileFault.{FileFault}
 use Rattle.replay.specs.declared.card.Card.{Card}
 use Rattle.replay.specs.declared.card.Card.TheVariants.{Stock, Operating}
+use Rattle.replay.specs.declared.card.Refused.{Refused}
 
 abbrev pub number_of : Card → ℕ
 number_of (Stock card) = card.number
 number_of (Operating card) = card.number
 
 -- the card that comes back, with a fault or without
-abbrev pub card_held : Result Card (FileFault × Card) → ℕ
+abbrev pub card_held : Result Card Refused → ℕ
 card_held (Ok card) = number_of card
-card_held (Err back) = number_of back.1
+card_held (Err refused) = number_of refused.card
 
-abbrev pub fault_told : Result Card (FileFault × Card) → Option FileFault
+abbrev pub fault_told : Result Card Refused → Option FileFault
 fault_told (Ok card) = None
-fault_told (Err back) = Some back.0
+fault_told (Err refused) = Some refused.fault

@@ -2,6 +2,7 @@ ghost use Rattle.std.specs.Prelude.{◌≡◌, None};
 
 use crate::card::Card;
 use catalogue::books::PrintedBook;
+use entries::record::Record;
 use faults::file::FileFault;
 use table::table::Table;
 
@@ -10,6 +11,14 @@ use table::table::Table;
 pub struct Game {
     pub table: Table<PrintedBook>,
     pub card: Card,
+}
+
+// A game as the first record of a file opens it, that record, and the place after it.
+#[derive(Drop)]
+pub struct Opened {
+    pub game: Game,
+    pub record: Record,
+    pub next: usize,
 }
 
 // Where a file was refused, and the game that the records before it made; none if it was refused at or before its open.

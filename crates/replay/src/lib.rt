@@ -3,6 +3,7 @@
 
 pub mod card;
 pub mod game;
+mod opening;
 pub mod playing;
 pub mod records;
 mod whole;

@@ -3,9 +3,8 @@ ghost use Rattle.replay.specs.Cards.{number_of, card_held, fault_told};
 ghost use Rattle.replay.specs.Laws.{LedOn};
 ghost use Rattle.replay.specs.Playing.{played_from};
 
-use crate::card::Card;
+use crate::card::{Card, Refused};
 use crate::records::make_record;
-use faults::file::FileFault;
 use gamefile::reading::read;
 use rulebook::book::RuleBook;
 use table::table::Table;
@@ -16,7 +15,7 @@ pub fn play<B: RuleBook>(
     card: Card,
     file: &[u8],
     from: usize,
-) -> Result<Card, (FileFault, Card)>
+) -> Result<Card, Refused>
     ensures played { (table.new.books, card_held result, fault_told result) ≡ played_from (B.meaning table.old.book) table.old.books (number_of card) file.now from }
     ensures same { table.new.book ≡ table.old.book }
     ensures life { LedOn (B.meaning table.old.book) table.old.books table.new.books }
@@ -30,7 +29,7 @@ pub fn play<B: RuleBook>(
                 card = make_record(table, card, place, record)?;
                 place = next;
             }
-            Err(fault) => return Err((fault, card)),
+            Err(fault) => return Err(Refused { fault, card }),
         }
     }
     Ok(card)

@@ -36,7 +36,7 @@ returns-in_err-card-in-Ok g c =
     let made = c.in_err-card-in-Ok.ensures.played ∙ ap (λ k. record_played (g.B.RuleBook.meaning k) t.books card c.loop-place.place e) i.0 in
     let back = c.in_err-card-in-Ok.field-0.0 in
     let p = err_from_is_err_and c.from_residual.result c.from_residual.ensures.1 in
-    let end = refused_left b file c.loop-place.place i.1.0 i.1.1 t.books card _ i.1.2 c.loop-place-test.true e c.in-Ok.next got.value got.within.0 c.make_record.new.table.books (number_of back.1) back.0 made in
+    let end = refused_left b file c.loop-place.place i.1.0 i.1.1 t.books card _ i.1.2 c.loop-place-test.true e c.in-Ok.next got.value got.within.0 c.make_record.new.table.books (number_of back.card) back.fault made in
     rw (p.1, p.2) (record { played = end; same = c.make_record.ensures.same ∙ i.0; life = ends_led b s (number_of c.args.card) file c.args.from _ end; card = ends_right b s (number_of c.args.card) file c.args.from _ end })
 
 pub returns-in-Err : goal.returns-in-Err
