@@ -1,3 +1,2 @@
-mod CallsLeft
 mod Players
 mod Reached

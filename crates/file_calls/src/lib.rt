@@ -8,7 +8,7 @@ ghost use Rattle.file_calls.specs.Calls.{card_then, listed, calls_from, file_cal
 ghost use Rattle.file_calls.specs.Laws.{LivesOfFiles};
 
 use entries::record::Record;
-use gamefile::reading::read;
+use gamefile::records::records_from;
 use ledger::call::Call;
 use std::alloc::{AllocError, Global};
 
@@ -84,16 +84,12 @@ pub fn calls_of(heap: Global, file: &[u8]) -> Result<Vec<Call>, AllocError>
 {
     let mut calls = Vec::new(heap);
     let mut card: u16 = 1;
-    let mut place = 0;
-    while place < file.len() {
-        match read(file, place) {
-            Ok((record, next)) => {
-                calls.extend(call_of(card, record))?;
-                card = next_card(card, record);
-                place = next;
-            }
-            Err(_) => return Ok(calls),
-        }
+    for found in records_from(file, 0) {
+        let Ok((_, record)) = found else {
+            break;
+        };
+        calls.extend(call_of(card, record))?;
+        card = next_card(card, record);
     }
     Ok(calls)
 }

@@ -11,7 +11,7 @@ ghost use Rattle.game_trace.specs.Trace.{traced_from};
 use crate::crossed::{push_crossings, record_crossings};
 use crossings::crossing::Crossing;
 use entries::record::Record;
-use gamefile::reading::read;
+use gamefile::records::records_from;
 use listing::push_record;
 use replay::card::{Card, Refused};
 use replay::records::make_record;
@@ -71,15 +71,13 @@ pub(crate) fn push_steps<B: RuleBook>(
     ensures { OnOk result (Pushed (string_bytes text.old) (string_bytes text.new) (traced_from (B.meaning table.old.book) table.old.books (number_of card) file.now from)) }
 {
     let mut card = card;
-    let mut place = from;
-    while place < file.len() {
-        match read(file, place) {
-            Ok((record, next)) => {
+    for found in records_from(file, from) {
+        match found {
+            Ok((place, record)) => {
                 let Some(held) = push_step(heap, text, table, card, place, record)? else {
                     return Ok(());
                 };
                 card = held;
-                place = next;
             }
             Err(fault) => return push_refusal(text, fault),
         }

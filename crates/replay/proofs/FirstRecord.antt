@@ -5,8 +5,7 @@ use Rattle.faults.specs.declared.file.FileFault.{FileFault}
 use Rattle.entries.specs.Entry.{Entry}
 use Rattle.entries.specs.Reading.{read_at}
 use Rattle.entries.specs.Whole.{Outcome, onward, reading_by, reading}
-use Rattle.entries.proofs.Steps.{at_end, stops, goes_on}
-use Rattle.replay.proofs.Forward.{forward, same_reading}
+use Rattle.entries.proofs.Steps.{at_end, stops, goes_on, reads_on, same_reading}
 
 module _ (file : List ℕ) where
   abbrev others : ℕ → Outcome
@@ -14,8 +13,8 @@ module _ (file : List ℕ) where
 
   by_first : 0 < length file → (r : Result (Entry × ℕ) FileFault) → read_at file 0 ≡ r → reading file ≡ onward 0 r others
   by_first some (Ok x) h =
-      let on = goes_on file 0 some (length file) x.0 x.1 (omega arith) h (forward file 0 x.0 x.1 h) in
-      let same = same_reading file on.0 (length file) x.1 on.1 (omega arith) in
+      let on = goes_on file 0 some (length file) x.0 x.1 (omega arith) h (reads_on 0 file x.0 x.1 h) in
+      let same = same_reading on.0 (length file) file x.1 on.1 (omega arith) in
       on.2 ∙ ap (λ (o : Outcome). ((0, x.0) ∷ o.0, o.1)) same
   by_first some (Err fault) h = stops file 0 some (length file) fault (omega arith) h
 

@@ -7,8 +7,7 @@ use Rattle.entries.specs.Reading.{first, from_place, read_at}
 use Rattle.entries.specs.Whole.{Outcome, reading_by, placed_from}
 use Rattle.entries.specs.Writing.{writing, size}
 use Rattle.entries.proofs.OneWriting.{first_written}
-use Rattle.entries.proofs.Steps.{goes_on}
-use Rattle.replay.proofs.Forward.{same_reading}
+use Rattle.entries.proofs.Steps.{goes_on, same_reading}
 
 abbrev pub after_front : ℕ → List Entry → Outcome → Outcome
 after_front place es o = (placed_from place es ++ o.0, o.1)
@@ -33,4 +32,4 @@ reads_front es rest =
     let file = flat_map writing es ++ rest in
     let end = length (flat_map writing es) in
     let f = front file es 0 (length file) rest refl (omega arith) end (omega arith) in
-    f.2 ∙ ap (after_front 0 es) (same_reading file f.0 (length file) end f.1 (omega arith))
+    f.2 ∙ ap (after_front 0 es) (same_reading f.0 (length file) file end f.1 (omega arith))

@@ -1,5 +1,3 @@
-mod Left
-pub mod Forward
 pub mod FirstRecord
 mod Opens
 pub mod OwnCard

@@ -2,6 +2,7 @@
 use Rattle.std.proofs.Common.{◌≡◌, ℕ, Bool, true, false, cond, not, ◌&&◌, eqb, Some, None, Ok, Err, Option, sym, refl, ap, ◌∙◌, arith}
 use Rattle.std.proofs.lemmas.Bool.{cond_both, not-false, eqb-true}
 use Rattle.faults.specs.Layers.{in_call, at_place}
+use Rattle.faults.specs.declared.file.FileFault.{FileFault}
 use Rattle.faults.specs.declared.file.FileRefusal.TheVariants.{OtherRound}
 use Rattle.faults.specs.declared.table.TableRefusal.TheVariants.{WrongCard}
 use Rattle.rulebook.specs.Book.{Book}
@@ -15,7 +16,9 @@ use Rattle.promises.proofs.Granted.{both_granted, test_passed}
 use Rattle.replay.specs.Calls.{call_of, name_of, belongs}
 use Rattle.replay.specs.Laws.{entry_of}
 use Rattle.replay.specs.Playing.{Played, fault_of, next_card, call_played, not_made, asked, record_played}
-use Rattle.replay.proofs.Left.{triple}
+
+triple : {s t : Books} {card held : ℕ} {fault told : Option FileFault} → s ≡ t → card ≡ held → fault ≡ told → ◌≡◌ {A = Played} (s, card, fault) (t, held, told)
+triple p q r = cc
 
 both_true : (x y : Bool) → (x && y) ≡ true → (x ≡ true) × (y ≡ true)
 both_true true y e = (refl, e)

@@ -8,10 +8,8 @@ use catalogue::books::PrintedBook;
 use entries::record::Record;
 use faults::file::{FileFault, FileRefusal, at_place};
 use gamefile::reading::read;
+use gamefile::records::LONGEST;
 use table::table::Table;
-
-// No game file is longer.
-const LONGEST: usize = 65_536;
 
 // A fault of the first record, or of the whole file.
 fn at_start(refusal: FileRefusal) -> FileFault

@@ -5,7 +5,7 @@ ghost use Rattle.replay.specs.Playing.{played_from};
 
 use crate::card::{Card, Refused};
 use crate::records::make_record;
-use gamefile::reading::read;
+use gamefile::records::records_from;
 use rulebook::book::RuleBook;
 use table::table::Table;
 
@@ -22,13 +22,9 @@ pub fn play<B: RuleBook>(
     ensures card { number_of card ≡ table.old.books.round → card_held result ≡ table.new.books.round }
 {
     let mut card = card;
-    let mut place = from;
-    while place < file.len() {
-        match read(file, place) {
-            Ok((record, next)) => {
-                card = make_record(table, card, place, record)?;
-                place = next;
-            }
+    for found in records_from(file, from) {
+        match found {
+            Ok((place, record)) => card = make_record(table, card, place, record)?,
             Err(fault) => return Err(Refused { fault, card }),
         }
     }
