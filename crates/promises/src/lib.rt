@@ -7,33 +7,23 @@ ghost use Rattle.promises.specs.Conservation.{CallsConserve};
 ghost use Rattle.promises.specs.NeverSticks.{NeverSticks};
 ghost use Rattle.promises.specs.Promises.{AllLivesStand};
 
-// These stand for their contracts alone.
-pub fn calls_conserve() -> u8
+// These stand for their contracts alone, and do nothing.
+pub fn calls_conserve()
     ensures { CallsConserve }
-{
-    0
-}
+{}
 
-pub fn lives_stand() -> u8
+pub fn lives_stand()
     ensures { AllLivesStand }
-{
-    0
-}
+{}
 
-pub fn never_sticks() -> u8
+pub fn never_sticks()
     ensures { NeverSticks }
-{
-    0
-}
+{}
 
-pub fn calls_leave() -> u8
+pub fn calls_leave()
     ensures { CallsLeave }
-{
-    0
-}
+{}
 
-pub fn calls_carry() -> u8
+pub fn calls_carry()
     ensures { CallsCarry }
-{
-    0
-}
+{}

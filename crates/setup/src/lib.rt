@@ -1,7 +1,7 @@
 // The books of a table when it is opened.
 #![tactic(auto)]
 
-ghost use Rattle.std.specs.Prelude.{◌≡◌, ◌*◌, ◌≤◌, ◌∷◌, replicate};
+ghost use Rattle.std.specs.Prelude.{◌≡◌, ◌-◌, ◌*◌, ◌≤◌, ◌∷◌, ◌++◌, replicate};
 ghost use Rattle.ledger.specs.Holdings.{no_trains};
 ghost use Rattle.ledger.specs.Opening.{opening_cash, stack_of, untouched, opening_companies, opened, open_answer};
 
@@ -13,6 +13,7 @@ use kinds::trains::Trains;
 use ledger::books::{Books, Operating, Stock};
 use ledger::company::Company;
 use rulebook::book::RuleBook;
+use std::array;
 
 fn deal_cash(total: u16, players: u8, cash: u16) -> [Cash; 15]
     requires { (players ≤ 6) × (players * cash ≤ total) }
@@ -20,43 +21,43 @@ fn deal_cash(total: u16, players: u8, cash: u16) -> [Cash; 15]
 {
     let empty = Cash::holding(CashFloor::Zero, 0);
     let hand = Cash::holding(CashFloor::Zero, cash);
+    let bank = Cash::holding(CashFloor::Overdraft, total - u16::from(players) * cash);
+    cash_row(players, bank, hand, empty)
+}
+
+// The bank, the seats, and the places beyond them.
+fn cash_row(players: u8, bank: Cash, hand: Cash, empty: Cash) -> [Cash; 15]
+    requires { players ≤ 6 }
+    ensures { result ≡ bank ∷ (replicate players hand ++ replicate (14 - players) empty) }
+{
     let mut row = [empty; 15];
-    row[0] = Cash::holding(CashFloor::Overdraft, total - u16::from(players) * cash);
-    for before in 0..players {
-        row[before as usize + 1] = hand;
-    }
+    row[0] = bank;
+    row[1..=usize::from(players)].fill(hand);
     row
 }
 
 fn stack_trains<B: RuleBook>(book: &B) -> [Trains; 9]
     ensures { result ≡ stack_of (B.meaning book.now).train_count ∷ replicate 8 no_trains }
 {
-    let none = Trains::none();
-    [stack(book), none, none, none, none, none, none, none, none]
+    let mut row = [Trains::none(); 9];
+    row[0] = stack(book);
+    row
 }
 
 fn stack<B: RuleBook>(book: &B) -> Trains
     ensures { result ≡ stack_of (B.meaning book.now).train_count }
 {
-    Trains::new([
-        book.train_count(0),
-        book.train_count(1),
-        book.train_count(2),
-        book.train_count(3),
-        book.train_count(4),
-        book.train_count(5),
-        book.train_count(6),
-        book.train_count(7),
-    ])
+    Trains::new(array::from_fn(|kind| book.train_count(kind as u8)))
 }
 
 // A company that nothing has happened to, with so much in its offering.
 fn untouched_company(offering: Papers) -> Company
     ensures { result ≡ untouched offering }
 {
-    let none = Papers::none();
+    let mut papers = [Papers::none(); 8];
+    papers[0] = offering;
     Company {
-        papers: [offering, none, none, none, none, none, none, none],
+        papers,
         space: 0,
         par: 0,
         floated: false,
@@ -69,11 +70,8 @@ fn list_companies(companies: u8) -> [Company; 8]
     requires { companies ≤ 8 }
     ensures { result ≡ opening_companies companies }
 {
-    let new = untouched_company(Papers::all());
     let mut rows = [untouched_company(Papers::none()); 8];
-    for before in 0..companies {
-        rows[before as usize] = new;
-    }
+    rows[..usize::from(companies)].fill(untouched_company(Papers::all()));
     rows
 }
 
@@ -106,8 +104,8 @@ fn opening_books<B: RuleBook>(book: &B, players: u8, cash: u16) -> Books
 pub fn open_books<B: RuleBook>(book: &B, players: u8) -> Result<Books, TableRefusal>
     ensures { result ≡ open_answer (B.meaning book.now) players }
 {
-    match book.opening_cash(players) {
-        Some(cash) => Ok(opening_books(book, players, cash)),
-        None => Err(TableRefusal::NoOpeningCash),
-    }
+    let cash = book
+        .opening_cash(players)
+        .ok_or(TableRefusal::NoOpeningCash)?;
+    Ok(opening_books(book, players, cash))
 }

@@ -6,5 +6,5 @@ use Rattle.setup.proofs.stack_trains.Goals as goal
 pub returns : goal.returns
 returns g c =
     let s = c.stack.ensures in
-    let n : c.none-none.result ≡ no_trains = same_trains c.none-none.result no_trains c.none-none.ensures in
+    let n : c.none-row.result ≡ no_trains = same_trains c.none-row.result no_trains c.none-row.ensures in
     λ i. s i ∷ (n i ∷ (n i ∷ (n i ∷ (n i ∷ (n i ∷ (n i ∷ (n i ∷ (n i ∷ []))))))))
