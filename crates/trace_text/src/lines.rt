@@ -1,7 +1,7 @@
 // The line that tells a crossing: who gives what to whom.
-ghost use Rattle.std.specs.Prelude.{◌<◌, string_bytes, OnOk};
+ghost use Rattle.std.specs.Prelude.{Some, string_bytes, OnOk};
 ghost use Rattle.crossings.specs.Views.{view};
-ghost use Rattle.trace_text.specs.Lines.{number_words, numbers_from, cash_line, papers_line, trains_line, crossing_line};
+ghost use Rattle.trace_text.specs.Lines.{numbers_from, cash_line, papers_line, trains_line, crossing_line};
 ghost use Rattle.trace_text.specs.Pushed.{Pushed};
 
 use crate::places::{cash_place_at, paper_place_at, train_place_at};
@@ -9,6 +9,7 @@ use crossings::crossing::Crossing;
 use kinds::certificate_set::CertificateSet;
 use kinds::train_load::TrainLoad;
 use std::alloc::AllocError;
+use std::fmt;
 
 fn push_cash(
     text: &mut String,
@@ -25,27 +26,20 @@ fn push_cash(
 }
 
 // The numbers of a set's certificates, with a blank before each.
-fn push_numbers(text: &mut String, certificates: CertificateSet) -> Result<(), AllocError>
-    ensures { OnOk result (Pushed (string_bytes text.old) (string_bytes text.new) (numbers_from certificates.bits 0 16)) }
-{
-    for number in 0..16u8 {
-        push_number(text, certificates, number)?;
-    }
-    Ok(())
-}
+#[derive(Clone, Copy)]
+struct Numbers(CertificateSet);
 
-fn push_number(
-    text: &mut String,
-    certificates: CertificateSet,
-    number: u8,
-) -> Result<(), AllocError>
-    requires { number < 16 }
-    ensures { OnOk result (Pushed (string_bytes text.old) (string_bytes text.new) (number_words certificates.bits number)) }
-{
-    if certificates.bits >> number & 1 == 1 {
-        return write!(text, " {number}");
+impl fmt::Display for Numbers {
+    ghost output = { λ numbers. Some (numbers_from numbers.0.bits 0 16) };
+
+    fn fmt<W: fmt::Write>(&self, f: &mut fmt::Formatter<W>) -> fmt::Result {
+        for number in 0..16u8 {
+            if self.0.bits >> number & 1 == 1 {
+                write!(f, " {number}")?;
+            }
+        }
+        Ok(())
     }
-    Ok(())
 }
 
 fn push_papers(
@@ -59,12 +53,11 @@ fn push_papers(
 {
     let giver = paper_place_at(giver);
     let receiver = paper_place_at(receiver);
-    write!(
+    let numbers = Numbers(certificates);
+    writeln!(
         text,
-        "  company {company}: {giver} gives {receiver} certificates"
-    )?;
-    push_numbers(text, certificates)?;
-    writeln!(text)
+        "  company {company}: {giver} gives {receiver} certificates{numbers}"
+    )
 }
 
 fn push_trains(
@@ -77,8 +70,7 @@ fn push_trains(
 {
     let giver = train_place_at(giver);
     let receiver = train_place_at(receiver);
-    let kind = load.kind;
-    let count = load.count;
+    let TrainLoad { kind, count } = load;
     if count == 1 {
         return writeln!(text, "  {giver} gives {receiver} train {kind}");
     }
