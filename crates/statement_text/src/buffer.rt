@@ -9,11 +9,9 @@ use text::{Text, TextRefusal};
 pub(crate) fn hand_over(text: &Text, buffer: &mut [u8]) -> Result<usize, FileFault>
     ensures { (result, buffer.new) ≡ handed_over (shown text.now) buffer.old }
 {
-    match text.copy_to(buffer) {
-        Ok(length) => Ok(length),
-        Err(TextRefusal::BufferTooShort) => Err(FileFault {
+    text.copy_to(buffer)
+        .map_err(|TextRefusal::BufferTooShort| FileFault {
             refusal: FileRefusal::BufferTooShort,
             place: 0,
-        }),
-    }
+        })
 }

@@ -20,15 +20,15 @@ pub(crate) fn statement_lines<B: RuleBook>(book: &B, books: &Books) -> Text
 fn push_seats<B: RuleBook>(text: &mut Text, book: &B, books: &Books)
     ensures { shown text.new ≡ added (shown text.old) (lines_to (seat_line_of (B.meaning book.now) books.now) books.now.players) }
 {
-    for before in 0..books.players {
-        push_seat(text, book, books, before + 1);
+    for seat in 1..=books.players {
+        push_seat(text, book, books, seat);
     }
 }
 
 fn push_seat<B: RuleBook>(text: &mut Text, book: &B, books: &Books, seat: u8)
     ensures { shown text.new ≡ added (shown text.old) (seat_line_of (B.meaning book.now) books.now seat) }
 {
-    let cash = books.marks(seat as usize);
+    let cash = books.marks(usize::from(seat));
     let certificates = certificates_held_by(books, seat, book.companies());
     text.push_seat_line(seat, cash, certificates);
 }
@@ -36,8 +36,8 @@ fn push_seat<B: RuleBook>(text: &mut Text, book: &B, books: &Books, seat: u8)
 fn push_companies<B: RuleBook>(text: &mut Text, book: &B, books: &Books)
     ensures { shown text.new ≡ added (shown text.old) (lines_to (company_line_of (B.meaning book.now) books.now) (B.meaning book.now).companies) }
 {
-    for before in 0..book.companies() {
-        push_company(text, book, books, before + 1);
+    for company in 1..=book.companies() {
+        push_company(text, book, books, company);
     }
 }
 
@@ -59,8 +59,5 @@ fn push_company<B: RuleBook>(text: &mut Text, book: &B, books: &Books, company: 
 fn director_number(books: &Books, company: u8) -> u8
     ensures { result ≡ director_number books.now company }
 {
-    match director_of(books, company) {
-        Some(seat) => seat,
-        None => 0,
-    }
+    director_of(books, company).unwrap_or(0)
 }
