@@ -23,7 +23,7 @@ pub fn seat_tenths(books: &Books, company: u8, seat: u8) -> u32
 pub fn holds_director(books: &Books, company: u8, place: usize) -> bool
     ensures { result ≡ holds_director books.now company place }
 {
-    books.papers(company, place).certificates().bits & 1 == 1
+    books.papers(company, place).certificates().contains(0)
 }
 
 // The seat that holds the director's certificate.

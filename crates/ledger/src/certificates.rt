@@ -10,7 +10,7 @@ pub fn lowest(set: CertificateSet, count: u8, from: u8) -> CertificateSet
     let mut left = count;
     let mut bits: u16 = 0;
     for number in from..9 {
-        if left > 0 && set.bits >> number & 1 == 1 {
+        if left > 0 && set.contains(number) {
             bits += 1 << number;
             left -= 1;
         }

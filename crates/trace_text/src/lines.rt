@@ -34,7 +34,7 @@ impl fmt::Display for Numbers {
 
     fn fmt<W: fmt::Write>(&self, f: &mut fmt::Formatter<W>) -> fmt::Result {
         for number in 0..16u8 {
-            if self.0.bits >> number & 1 == 1 {
+            if self.0.contains(number) {
                 write!(f, " {number}")?;
             }
         }
