@@ -1,10 +1,8 @@
 // What crosses in a call, as a list: who gives what to whom, in order.
 #![tactic(auto)]
 
-pub mod crossing;
-mod operating_calls;
-mod stock_calls;
 mod trial;
 mod whole;
 
-pub use whole::{answer_to, crossings_of};
+pub use moving::{answer_to, crossing};
+pub use whole::crossings_of;

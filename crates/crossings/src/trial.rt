@@ -1,24 +1,18 @@
-// A copy of the books on which a call is tried, and what has crossed there. Only a granted call is tried, so what carry
-// answers is known.
-ghost use Rattle.std.specs.Prelude.{◌≡◌, [], ◌∷◌, ◌++◌, OnOk};
-ghost use Rattle.ledger.specs.Crossings.{pays, hands, moves};
-ghost use Rattle.crossings.specs.Noted.{papers_carried, Noted};
-ghost use Rattle.crossings.specs.Views.{listed, view};
+// A copy of the books on which a call is tried, and what has crossed there.
+ghost use Rattle.std.specs.Prelude.{◌≡◌, [], ◌∷◌, IsOkAnd};
+ghost use Rattle.crossings.specs.Noted.{Written, Noted, noted_laws};
+ghost use Rattle.moving.specs.Views.{view, listed};
 
-use crate::crossing::Crossing;
-use hands::carrying::carry;
-use hands::hand::Hand;
-use kinds::certificate_set::CertificateSet;
-use kinds::train_load::TrainLoad;
 use ledger::books::Books;
-use ledger::company::Company;
-use ledger::reading::slot;
+use moving::crossing::Crossing;
+use moving::moves::Moves;
 use std::alloc::{AllocError, Global};
 
+// The list, or that memory did not hold it.
 #[derive(Drop)]
 pub(crate) struct Trial {
     pub(crate) books: Books,
-    pub(crate) crossings: Vec<Crossing>,
+    pub(crate) crossings: Result<Vec<Crossing>, AllocError>,
 }
 
 fn copy_of(books: &Books) -> Books
@@ -35,102 +29,41 @@ fn copy_of(books: &Books) -> Books
     }
 }
 
-fn note(crossings: &mut Vec<Crossing>, crossing: Crossing) -> Result<(), AllocError>
-    ensures { OnOk result (listed crossings.new.items ≡ listed crossings.old.items ++ (view crossing ∷ [])) }
+fn note(crossings: &mut Result<Vec<Crossing>, AllocError>, crossing: Crossing)
+    ensures { Written crossings.old (view crossing ∷ []) crossings.new }
 {
-    crossings.push(crossing)?;
-    Ok(())
-}
-
-// A company outside the rows has no papers.
-fn carry_in(
-    companies: &mut [Company],
-    at: usize,
-    giver: usize,
-    receiver: usize,
-    certificates: CertificateSet,
-)
-    ensures { companies.new ≡ papers_carried companies.old at giver receiver certificates }
-{
-    if at < companies.len() {
-        let record = &mut companies[at];
-        let _ = carry(&mut record.papers, giver, receiver, certificates);
+    if let Ok(list) = crossings {
+        if list.push(crossing).is_err() {
+            *crossings = Err(AllocError);
+        }
     }
 }
 
 impl Trial {
     pub(crate) fn start(heap: Global, books: &Books) -> Trial
         ensures copied { result.books ≡ books.now }
-        ensures nothing { listed result.crossings.items ≡ [] }
+        ensures nothing { IsOkAnd result.crossings (λ v. listed v.items ≡ []) }
     {
         Trial {
             books: copy_of(books),
-            crossings: Vec::new(heap),
+            crossings: Ok(Vec::new(heap)),
         }
     }
+}
 
-    pub(crate) fn pay(
-        &mut self,
-        giver: usize,
-        receiver: usize,
-        marks: u32,
-    ) -> Result<(), AllocError>
-        ensures { OnOk result (Noted self.old self.new (pays giver receiver marks ∷ [])) }
-    {
-        let _ = carry(&mut self.books.cash, giver, receiver, marks);
-        note(
-            &mut self.crossings,
-            Crossing::Cash {
-                giver,
-                receiver,
-                marks,
-            },
-        )
+impl Moves for Trial {
+    ghost books_of = { λ t. t.books };
+
+    ghost Moved = { λ s xs t. Noted s t xs };
+
+    ghost laws = { noted_laws };
+
+    fn books(&self) -> &Books {
+        &self.books
     }
 
-    pub(crate) fn hand_over(
-        &mut self,
-        company: u8,
-        giver: usize,
-        receiver: usize,
-        certificates: CertificateSet,
-    ) -> Result<(), AllocError>
-        ensures { OnOk result (Noted self.old self.new (hands company giver receiver certificates.bits ∷ [])) }
-    {
-        carry_in(
-            &mut self.books.companies,
-            slot(company),
-            giver,
-            receiver,
-            certificates,
-        );
-        note(
-            &mut self.crossings,
-            Crossing::Papers {
-                company,
-                giver,
-                receiver,
-                certificates,
-            },
-        )
-    }
-
-    pub(crate) fn move_trains(
-        &mut self,
-        giver: usize,
-        receiver: usize,
-        load: TrainLoad,
-    ) -> Result<(), AllocError>
-        ensures { OnOk result (Noted self.old self.new (moves giver receiver load ∷ [])) }
-    {
-        let _ = carry(&mut self.books.trains, giver, receiver, load);
-        note(
-            &mut self.crossings,
-            Crossing::Trains {
-                giver,
-                receiver,
-                load,
-            },
-        )
+    fn cross(&mut self, crossing: Crossing) {
+        self.books.cross(crossing);
+        note(&mut self.crossings, crossing);
     }
 }

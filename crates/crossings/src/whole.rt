@@ -1,79 +1,25 @@
-ghost use Rattle.std.specs.Prelude.{◌≡◌, IfOk, OnOk};
-ghost use Rattle.ledger.specs.Lives.{answer, crossings_of, crossings};
+ghost use Rattle.std.specs.Prelude.{◌≡◌, IfOk};
+ghost use Rattle.ledger.specs.Lives.{crossings_of, crossings};
 ghost use Rattle.crossings.specs.Noted.{Noted};
-ghost use Rattle.crossings.specs.Views.{listed};
+ghost use Rattle.moving.specs.Views.{listed};
 
-use crate::crossing::Crossing;
-use crate::operating_calls::{try_bill, try_payout, try_train};
-use crate::stock_calls::{try_purchase, try_sale};
 use crate::trial::Trial;
-use faults::table::TableRefusal;
-use judging::rounds::{judge_close, judge_reopen, on_stock_turn};
 use judging::sale::Sale;
 use ledger::books::Books;
 use ledger::call::Call;
-use operating::payout::judge_payout;
-use operating::train::judge_train;
-use operating::turn::{judge_bill, judge_done};
+use moving::answer_to;
+use moving::crossing::Crossing;
+use moving::payout::{move_bill, move_payout};
+use moving::purchase::move_purchase;
+use moving::sale::move_sale;
+use moving::train::move_train;
 use purchasing::Purchase;
 use rulebook::book::RuleBook;
 use std::alloc::{AllocError, Global};
 
-// What a call would be answered, with nothing moved.
-pub fn answer_to<B: RuleBook>(book: &B, books: &Books, call: Call) -> Result<(), TableRefusal>
-    ensures { result ≡ answer (B.meaning book.now) books.now call }
-{
-    match call {
-        Call::Sell {
-            card,
-            seat,
-            company,
-            tenths,
-        } => Sale {
-            seat,
-            company,
-            tenths,
-        }
-        .judge(book, books, card),
-        Call::Buy {
-            card,
-            seat,
-            company,
-            source,
-            par,
-        } => Purchase {
-            seat,
-            company,
-            source,
-            space: par,
-        }
-        .judge(book, books, card),
-        Call::End { card, seat } => on_stock_turn(books, card, seat),
-        Call::Close { card } => judge_close(books, card),
-        Call::Bill {
-            card,
-            company,
-            amount,
-        } => judge_bill(books, card, company, amount),
-        Call::Payout {
-            card,
-            company,
-            mode,
-            revenue,
-        } => judge_payout(book, books, card, company, mode, revenue),
-        Call::Train {
-            card,
-            company,
-            kind,
-        } => judge_train(book, books, card, company, kind),
-        Call::Done { card, company } => judge_done(book, books, card, company),
-        Call::Reopen { card } => judge_reopen(books, card),
-    }
-}
-
 // Only sales, purchases, bills, payouts and trains move anything.
-fn try_call<B: RuleBook>(trial: &mut Trial, book: &B, call: Call) -> Result<(), AllocError>
-    ensures { OnOk result (Noted trial.old trial.new (crossings_of (B.meaning book.now) trial.old.books call)) }
+fn try_call<B: RuleBook>(trial: &mut Trial, book: &B, call: Call)
+    ensures { Noted trial.old trial.new (crossings_of (B.meaning book.now) trial.old.books call) }
 {
     match call {
         Call::Sell {
@@ -81,7 +27,7 @@ fn try_call<B: RuleBook>(trial: &mut Trial, book: &B, call: Call) -> Result<(), 
             company,
             tenths,
             ..
-        } => try_sale(
+        } => move_sale(
             trial,
             book,
             Sale {
@@ -96,7 +42,7 @@ fn try_call<B: RuleBook>(trial: &mut Trial, book: &B, call: Call) -> Result<(), 
             source,
             par,
             ..
-        } => try_purchase(
+        } => move_purchase(
             trial,
             book,
             Purchase {
@@ -110,15 +56,15 @@ fn try_call<B: RuleBook>(trial: &mut Trial, book: &B, call: Call) -> Result<(), 
             company,
             amount,
             ..
-        } => try_bill(trial, company, amount),
+        } => move_bill(trial, company, amount),
         Call::Payout {
             company,
             mode,
             revenue,
             ..
-        } => try_payout(trial, company, book.split(mode, revenue)),
-        Call::Train { company, kind, .. } => try_train(trial, book, company, kind),
-        Call::End { .. } | Call::Close { .. } | Call::Done { .. } | Call::Reopen { .. } => Ok(()),
+        } => move_payout(trial, company, book.split(mode, revenue)),
+        Call::Train { company, kind, .. } => move_train(trial, book, company, kind),
+        Call::End { .. } | Call::Close { .. } | Call::Done { .. } | Call::Reopen { .. } => {}
     }
 }
 
@@ -133,7 +79,7 @@ pub fn crossings_of<B: RuleBook>(
 {
     let mut trial = Trial::start(heap, books);
     if answer_to(book, books, call).is_ok() {
-        try_call(&mut trial, book, call)?;
+        try_call(&mut trial, book, call);
     }
-    Ok(trial.crossings)
+    trial.crossings
 }
