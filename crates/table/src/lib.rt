@@ -4,10 +4,8 @@
 mod calls;
 pub mod cards;
 pub mod life;
-mod moving;
 mod payout;
 mod purchase;
 mod rounds;
 mod sale;
 pub mod table;
-mod train;

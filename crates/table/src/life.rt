@@ -7,7 +7,6 @@ ghost use Rattle.table.specs.Bounds.{Bounded};
 ghost use Rattle.table.specs.Comparing.{Compared};
 
 use crate::calls::make;
-use crate::table::Table;
 use comparing::same_hands;
 use faults::table::{CallName, TableFault, in_call};
 use ledger::books::Books;
@@ -22,23 +21,6 @@ fn lead_books<B: RuleBook>(book: &B, books: &mut Books, calls: &[Call])
 {
     for call in calls {
         let _ = make(book, books, *call);
-    }
-}
-
-// The same at a table: a refused call leaves its books as they were.
-pub(crate) fn make_call<B: RuleBook>(table: &mut Table<B>, call: Call)
-    ensures made { table.new.books ≡ after (B.meaning table.old.book) table.old.books call }
-    ensures same { table.new.book ≡ table.old.book }
-{
-    let _ = make(&table.book, &mut table.books, call);
-}
-
-pub(crate) fn lead<B: RuleBook>(table: &mut Table<B>, calls: &[Call])
-    ensures made { table.new.books ≡ fold (after (B.meaning table.old.book)) table.old.books calls.now }
-    ensures same { table.new.book ≡ table.old.book }
-{
-    for call in calls {
-        make_call(table, *call);
     }
 }
 

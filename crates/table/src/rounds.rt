@@ -1,11 +1,11 @@
-// The ends of turns and rounds, and the bill.
+// The ends of turns and rounds.
 ghost use Rattle.std.specs.Prelude.{◌≡◌, ◌≤◌};
-ghost use Rattle.ledger.specs.Operating.{bill_after, noted_served, done_after, reopen_after};
+ghost use Rattle.ledger.specs.Operating.{noted_served, done_after, reopen_after};
 ghost use Rattle.ledger.specs.Stock.{end_after, close_after, next_first};
 
-use crate::moving::cross_cash;
 use holdings::{next_company_of, next_seat};
 use ledger::books::{Books, Operating, Stock};
+use ledger::company::Company;
 use ledger::reading::slot;
 use rulebook::book::RuleBook;
 
@@ -53,24 +53,18 @@ pub(crate) fn close_round<B: RuleBook>(book: &B, books: &mut Books)
     };
 }
 
-pub(crate) fn pay_bill(books: &mut Books, company: u8, amount: u16)
-    ensures { books.new ≡ bill_after books.old company amount }
-{
-    let treasury = books.treasury(company);
-    cross_cash(books, treasury, 0, u32::from(amount));
-}
-
+// Nothing is noted outside the row.
 fn note_served(books: &mut Books, company: u8)
-    requires { company ≤ 8 }
     ensures { books.new ≡ noted_served books.old company }
 {
-    let round = books.round;
-    let record = &mut books.companies[slot(company)];
-    record.served = round;
+    let at = slot(company);
+    let companies: &mut [Company] = &mut books.companies;
+    if at < companies.len() {
+        companies[at].served = books.round;
+    }
 }
 
 pub(crate) fn finish_turn<B: RuleBook>(book: &B, books: &mut Books, company: u8)
-    requires { company ≤ 8 }
     ensures { books.new ≡ done_after (B.meaning book.now) books.old company }
 {
     note_served(books, company);

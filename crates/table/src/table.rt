@@ -4,6 +4,7 @@ use ledger::books::Books;
 use rulebook::book::RuleBook;
 
 mod comparison;
+mod making;
 mod opening;
 mod operating_round;
 mod reading;

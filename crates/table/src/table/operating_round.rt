@@ -6,9 +6,9 @@ ghost use Rattle.ledger.specs.declared.call.Call.TheVariants.{Bill, Payout, Trai
 ghost use Rattle.table.specs.Cards.{told_by};
 
 use super::Table;
-use crate::calls::{call_bill, call_done, call_payout, call_reopen, call_train};
 use crate::cards::{OperatingCard, StockCard};
-use faults::table::{CallName, TableFault, in_call};
+use faults::table::{CallName, TableFault};
+use ledger::call::Call;
 use rulebook::book::RuleBook;
 
 impl<B: RuleBook> Table<B> {
@@ -17,9 +17,13 @@ impl<B: RuleBook> Table<B> {
         ensures made { self.new.books ≡ after (B.meaning self.old.book) self.old.books (Bill card.now.number company amount) }
         ensures same { self.new.book ≡ self.old.book }
     {
-        in_call(
+        self.make(
             CallName::Bill,
-            call_bill(&mut self.books, card.number, company, amount),
+            Call::Bill {
+                card: card.number,
+                company,
+                amount,
+            },
         )
     }
 
@@ -34,16 +38,14 @@ impl<B: RuleBook> Table<B> {
         ensures made { self.new.books ≡ after (B.meaning self.old.book) self.old.books (Payout card.now.number company mode revenue) }
         ensures same { self.new.book ≡ self.old.book }
     {
-        in_call(
+        self.make(
             CallName::Payout,
-            call_payout(
-                &self.book,
-                &mut self.books,
-                card.number,
+            Call::Payout {
+                card: card.number,
                 company,
                 mode,
                 revenue,
-            ),
+            },
         )
     }
 
@@ -52,9 +54,13 @@ impl<B: RuleBook> Table<B> {
         ensures made { self.new.books ≡ after (B.meaning self.old.book) self.old.books (Train card.now.number company kind) }
         ensures same { self.new.book ≡ self.old.book }
     {
-        in_call(
+        self.make(
             CallName::Train,
-            call_train(&self.book, &mut self.books, card.number, company, kind),
+            Call::Train {
+                card: card.number,
+                company,
+                kind,
+            },
         )
     }
 
@@ -63,9 +69,12 @@ impl<B: RuleBook> Table<B> {
         ensures made { self.new.books ≡ after (B.meaning self.old.book) self.old.books (Done card.now.number company) }
         ensures same { self.new.book ≡ self.old.book }
     {
-        in_call(
+        self.make(
             CallName::Done,
-            call_done(&self.book, &mut self.books, card.number, company),
+            Call::Done {
+                card: card.number,
+                company,
+            },
         )
     }
 
@@ -75,7 +84,7 @@ impl<B: RuleBook> Table<B> {
         ensures made { self.new.books ≡ after (B.meaning self.old.book) self.old.books (Reopen card.number) }
         ensures same { self.new.book ≡ self.old.book }
     {
-        match in_call(CallName::Reopen, call_reopen(&mut self.books, card.number)) {
+        match self.make(CallName::Reopen, Call::Reopen { card: card.number }) {
             Ok(()) => Ok(StockCard {
                 number: self.books.round,
             }),

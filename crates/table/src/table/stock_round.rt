@@ -6,9 +6,9 @@ ghost use Rattle.ledger.specs.declared.call.Call.TheVariants.{Sell, Buy, End, Cl
 ghost use Rattle.table.specs.Cards.{told_by};
 
 use super::Table;
-use crate::calls::{call_buy, call_close, call_end, call_sell};
 use crate::cards::{OperatingCard, StockCard};
-use faults::table::{CallName, TableFault, in_call};
+use faults::table::{CallName, TableFault};
+use ledger::call::Call;
 use rulebook::book::RuleBook;
 
 impl<B: RuleBook> Table<B> {
@@ -23,16 +23,14 @@ impl<B: RuleBook> Table<B> {
         ensures made { self.new.books ≡ after (B.meaning self.old.book) self.old.books (Sell card.now.number seat company tenths) }
         ensures same { self.new.book ≡ self.old.book }
     {
-        in_call(
+        self.make(
             CallName::Sell,
-            call_sell(
-                &self.book,
-                &mut self.books,
-                card.number,
+            Call::Sell {
+                card: card.number,
                 seat,
                 company,
                 tenths,
-            ),
+            },
         )
     }
 
@@ -48,17 +46,15 @@ impl<B: RuleBook> Table<B> {
         ensures made { self.new.books ≡ after (B.meaning self.old.book) self.old.books (Buy card.now.number seat company source space) }
         ensures same { self.new.book ≡ self.old.book }
     {
-        in_call(
+        self.make(
             CallName::Buy,
-            call_buy(
-                &self.book,
-                &mut self.books,
-                card.number,
+            Call::Buy {
+                card: card.number,
                 seat,
                 company,
                 source,
-                space,
-            ),
+                par: space,
+            },
         )
     }
 
@@ -67,7 +63,13 @@ impl<B: RuleBook> Table<B> {
         ensures made { self.new.books ≡ after (B.meaning self.old.book) self.old.books (End card.now.number seat) }
         ensures same { self.new.book ≡ self.old.book }
     {
-        in_call(CallName::End, call_end(&mut self.books, card.number, seat))
+        self.make(
+            CallName::End,
+            Call::End {
+                card: card.number,
+                seat,
+            },
+        )
     }
 
     pub fn close(&mut self, card: StockCard) -> Result<OperatingCard, (TableFault, StockCard)>
@@ -76,10 +78,7 @@ impl<B: RuleBook> Table<B> {
         ensures made { self.new.books ≡ after (B.meaning self.old.book) self.old.books (Close card.number) }
         ensures same { self.new.book ≡ self.old.book }
     {
-        match in_call(
-            CallName::Close,
-            call_close(&self.book, &mut self.books, card.number),
-        ) {
+        match self.make(CallName::Close, Call::Close { card: card.number }) {
             Ok(()) => Ok(OperatingCard {
                 number: self.books.round,
             }),

@@ -1,7 +1,8 @@
-use Rattle.std.proofs.Common.{fold, refl, ap, ◌∙◌, take_all}
+use Rattle.std.proofs.Common.{get_or, fold, sym, ap, ◌∙◌, take_all}
+use Rattle.std.proofs.lemmas.List.Sums.{fold_more}
 use Rattle.ledger.specs.Lives.{after}
+use Rattle.ledger.specs.declared.books.Books.{Books}
 use Rattle.ledger.specs.declared.call.Call.TheVariants.{Sell}
-use Rattle.table.proofs.Led.{call_more}
 use Rattle.table.proofs.Ranges.{kept_bounded}
 use Rattle.table.proofs.life.lead_books.Goals as goal
 
@@ -10,9 +11,11 @@ loop-call-preserved g c =
     let b = g.B.RuleBook.meaning c.args.book.now in
     let law = g.met.B.RuleBook.lawful c.args.book.now in
     let l = c.loop-call in
+    let calls = c.args.calls.now in
+    let other = Sell 0 0 0 0 in
     let made = c.make in (
-      call_more b b c.args.books.now l.books made.new.books c.args.calls.now l.call-index (Sell 0 0 0 0) c.loop-call-test.true refl l.invariant.0 made.ensures.1,
-      kept_bounded b law l.books l.invariant.1 _ made.new.books made.ensures.1,
+      made.ensures.made ∙ ap (λ (z : Books). after b z (get_or calls l.call-index other)) l.invariant.0 ∙ sym (fold_more (after b) c.args.books.now calls l.call-index other c.loop-call-test.true),
+      kept_bounded b law l.books l.invariant.1 _ made.new.books made.ensures.made,
     )
 
 pub returns : goal.returns
