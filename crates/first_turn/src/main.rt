@@ -75,12 +75,10 @@ fn play<B: RuleBook + Drop>(rt: &HostRuntime, book: B) -> io::Result<()> {
     say(rt, "open 3", Ok(()))?;
     buy_until_float(rt, &mut table, &card)?;
     sell_and_pass(rt, &mut table, &card)?;
-    let back = match table.close(card) {
-        Ok(_) => return say(rt, "close", Ok(())),
-        Err(back) => back,
-    };
     // Not everybody has passed yet, and the card comes back.
-    let (fault, card) = back;
+    let Err((fault, card)) = table.close(card) else {
+        return say(rt, "close", Ok(()));
+    };
     say(rt, "close", Err(fault))?;
     say(rt, "end 2", table.end(&card, 2))?;
     finish(rt, table, card)
@@ -94,13 +92,13 @@ fn finish<B: RuleBook + Drop>(
 ) -> io::Result<()> {
     let operating = match table.close(stock) {
         Ok(operating) => operating,
-        Err(back) => return say(rt, "close", Err(back.0)),
+        Err((fault, _)) => return say(rt, "close", Err(fault)),
     };
     say(rt, "close", Ok(()))?;
     operate(rt, &mut table, &operating)?;
     let next = match table.reopen(operating) {
         Ok(next) => next,
-        Err(back) => return say(rt, "reopen", Err(back.0)),
+        Err((fault, _)) => return say(rt, "reopen", Err(fault)),
     };
     say(rt, "reopen", Ok(()))?;
     say(rt, "buy 3 1 1 0", table.buy(&next, 3, 1, 1, 0))
