@@ -1,9 +1,9 @@
 // Plays two game files and says, hand by hand, where the two tables differ, or that they are equal: compare A B.
 #![tactic(auto)]
 
-use catalogue::books::PrintedBook;
 use faults::file::FileFault;
 use file_calls::calls_of;
+use gamefile::records::LONGEST;
 use ledger::books::Books;
 use replay::game::Game;
 use replay::replay;
@@ -15,7 +15,7 @@ use std::{env, io};
 use table::life::compare_lives;
 
 // One byte more than the longest file tells that a file is too long.
-const ENOUGH: u64 = 65_537;
+const ENOUGH: u64 = LONGEST as u64 + 1;
 
 fn read_file(rt: &HostRuntime, name: &str) -> io::Result<Vec<u8>> {
     let mut bytes = Vec::new(rt.alloc());
@@ -27,14 +27,6 @@ fn say_refused(rt: &HostRuntime, name: &str, fault: FileFault) -> io::Result<()>
     let number = fault.refusal.number();
     let place = fault.place;
     println!(rt; "{name}: refused {number} at {place}")
-}
-
-fn is_same_book(one: PrintedBook, other: PrintedBook) -> bool {
-    match (one, other) {
-        (PrintedBook::North, PrintedBook::North) => true,
-        (PrintedBook::Berg, PrintedBook::Berg) => true,
-        _ => false,
-    }
 }
 
 // A cash hand of each table, by the place that it has in both rows.
@@ -58,13 +50,12 @@ fn show_cash_row(rt: &HostRuntime, one: &Books, other: &Books, companies: u8) ->
     if a != b {
         println!(rt; "bank: cash {a} and {b}")?;
     }
-    for before in 0..one.players {
-        let place = before as usize + 1;
-        show_cash(rt, "seat", before + 1, one, other, place)?;
+    for seat in 1..=one.players {
+        show_cash(rt, "seat", seat, one, other, usize::from(seat))?;
     }
-    for before in 0..companies {
-        let place = one.treasury(before + 1);
-        show_cash(rt, "company", before + 1, one, other, place)?;
+    for company in 1..=companies {
+        let place = one.treasury(company);
+        show_cash(rt, "company", company, one, other, place)?;
     }
     Ok(())
 }
@@ -125,12 +116,12 @@ fn show_trains(rt: &HostRuntime, one: &Books, other: &Books, place: usize) -> io
 
 fn show_differences(rt: &HostRuntime, one: &Books, other: &Books, companies: u8) -> io::Result<()> {
     show_cash_row(rt, one, other, companies)?;
-    for before in 0..companies {
-        for place in 0..one.players as usize + 2 {
-            show_papers(rt, one, other, before + 1, place)?;
+    for company in 1..=companies {
+        for place in 0..usize::from(one.players) + 2 {
+            show_papers(rt, one, other, company, place)?;
         }
     }
-    for place in 0..companies as usize + 1 {
+    for place in 0..=usize::from(companies) {
         show_trains(rt, one, other, place)?;
     }
     Ok(())
@@ -146,7 +137,7 @@ fn compare_games(
 ) -> io::Result<()> {
     let book = *one.table.book();
     let players = one.table.books().players;
-    if !is_same_book(book, *other.table.book()) || players != other.table.books().players {
+    if book != *other.table.book() || players != other.table.books().players {
         return rt.println("not opened alike");
     }
     let calls = calls_of(rt.alloc(), first)?;
@@ -163,15 +154,11 @@ fn compare_games(
 fn compare_files(rt: &HostRuntime, one: &str, other: &str) -> io::Result<()> {
     let first = read_file(rt, one)?;
     let second = read_file(rt, other)?;
-    let a = match replay(&first) {
-        Ok(game) => game,
-        Err(stopped) => return say_refused(rt, one, stopped.fault),
-    };
-    let b = match replay(&second) {
-        Ok(game) => game,
-        Err(stopped) => return say_refused(rt, other, stopped.fault),
-    };
-    compare_games(rt, &a, &b, &first, &second)
+    match (replay(&first), replay(&second)) {
+        (Ok(a), Ok(b)) => compare_games(rt, &a, &b, &first, &second),
+        (Err(stopped), _) => say_refused(rt, one, stopped.fault),
+        (_, Err(stopped)) => say_refused(rt, other, stopped.fault),
+    }
 }
 
 fn main(rt: HostRuntime) -> anyhow::Result<ExitCode> {

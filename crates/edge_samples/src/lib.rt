@@ -4,8 +4,6 @@
 ghost use Rattle.edge_samples.specs.Samples.{EdgeSamples};
 
 // Stands for its contract alone.
-pub fn edge_samples_hold() -> u8
+pub fn edge_samples_hold()
     ensures { EdgeSamples }
-{
-    0
-}
+{}

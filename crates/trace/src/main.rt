@@ -2,11 +2,12 @@
 #![tactic(auto)]
 
 use game_trace::trace;
+use gamefile::records::LONGEST;
 use std::io;
 use std::io::{Read, Write};
 
 // One byte more than the longest file tells that a file is too long.
-const ENOUGH: u64 = 65_537;
+const ENOUGH: u64 = LONGEST as u64 + 1;
 
 fn follow(rt: &HostRuntime) -> io::Result<()> {
     let mut file = Vec::new(rt.alloc());
