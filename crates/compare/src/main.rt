@@ -24,9 +24,7 @@ fn read_file(rt: &HostRuntime, name: &str) -> io::Result<Vec<u8>> {
 }
 
 fn say_refused(rt: &HostRuntime, name: &str, fault: FileFault) -> io::Result<()> {
-    let number = fault.refusal.number();
-    let place = fault.place;
-    println!(rt; "{name}: refused {number} at {place}")
+    println!(rt; "{name}: {fault}")
 }
 
 // A cash hand of each table, by the place that it has in both rows.
@@ -66,9 +64,9 @@ fn show_certificate(
     company: u8,
     place: usize,
     number: u8,
-    held: u16,
+    held_by_first: bool,
 ) -> io::Result<()> {
-    let table = if held == 1 { "first" } else { "second" };
+    let table = if held_by_first { "first" } else { "second" };
     print!(rt; "company {company}: certificate {number} only at the {table} table with ")?;
     match place {
         0 => rt.println("the offering"),
@@ -87,12 +85,12 @@ fn show_papers(
     company: u8,
     place: usize,
 ) -> io::Result<()> {
-    let a = one.papers(company, place).certificates().bits;
-    let b = other.papers(company, place).certificates().bits;
-    for number in 0..9u8 {
-        let (here, there) = (a >> number & 1, b >> number & 1);
-        if here != there {
-            show_certificate(rt, company, place, number, here)?;
+    let here = one.papers(company, place).certificates();
+    let there = other.papers(company, place).certificates();
+    for number in 0..9 {
+        let held_by_first = here.contains(number);
+        if held_by_first != there.contains(number) {
+            show_certificate(rt, company, place, number, held_by_first)?;
         }
     }
     Ok(())
