@@ -13,8 +13,5 @@ use console::write_text;
 pub extern "C" fn console_statement(file: &[u8], buffer: &mut [u8]) -> usize
     ensures { (result, buffer.new) ≡ length_or_nought (handed_over (console_text file.now) buffer.old) }
 {
-    match write_text(file, buffer) {
-        Ok(length) => length,
-        Err(_) => 0,
-    }
+    write_text(file, buffer).unwrap_or(0)
 }

@@ -12,10 +12,8 @@ fn agrees(rt: &HostRuntime, name: &str) -> io::Result<bool> {
     let file = fs::read(rt, format!(in rt.alloc(); "{name}.game")?)?;
     let expected = fs::read(rt, format!(in rt.alloc(); "{name}.expected")?)?;
     let mut buffer = [0; LONGEST];
-    match write_text(&file, &mut buffer) {
-        Ok(length) => Ok(buffer[0..length.min(LONGEST)] == expected[0..expected.len()]),
-        Err(_) => Ok(false),
-    }
+    let written = write_text(&file, &mut buffer);
+    Ok(written.is_ok_and(|length| buffer[..length.min(LONGEST)] == expected[..]))
 }
 
 fn check_games(rt: &HostRuntime) -> io::Result<()> {

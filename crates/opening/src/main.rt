@@ -9,10 +9,7 @@ use text::word_number;
 
 // The two numbers after the program's name, if there are just two words and both are numbers.
 fn numbers(rt: &HostRuntime) -> Option<(u32, u32)> {
-    let Ok(mut words) = env::args(rt) else {
-        return None;
-    };
-    let _ = words.next();
+    let mut words = env::args(rt).ok()?.skip(1);
     let (Some(book), Some(players), None) = (words.next(), words.next(), words.next()) else {
         return None;
     };

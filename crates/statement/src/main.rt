@@ -17,7 +17,7 @@ fn print_statement(rt: &HostRuntime) -> io::Result<()> {
     rt.stdin().take(ENOUGH).read_to_end(&mut file)?;
     let mut buffer = [0; LONGEST_TEXT];
     match write_text(&file, &mut buffer) {
-        Ok(length) => rt.stdout().write_all(&buffer[0..length.min(LONGEST_TEXT)]),
+        Ok(length) => rt.stdout().write_all(&buffer[..length.min(LONGEST_TEXT)]),
         Err(fault) => println!(rt; "{fault}"),
     }
 }
