@@ -1,20 +1,16 @@
 -- The numbers of a set's certificates, one after the other.
-use Rattle.std.proofs.Common.{◌≡◌, ℕ, zero, suc, ◌+◌, ◌/◌, ◌^◌, [], ◌++◌, codes, decimal, sym, ap, ◌∙◌, add-one, arith}
-use lib.Bits.{bit_and, and_mask}
+use Rattle.std.proofs.Common.{◌≡◌, ℕ, true, false, eqb, zero, suc, ◌+◌, [], ◌++◌, codes, decimal, sym, ap, ◌∙◌, add-one, arith}
 use Rattle.std.proofs.lemmas.List.{append_assoc, append-nil}
-use Rattle.std.proofs.lemmas.Bool.{eq-eqb, ne_eqb, cond-true, cond-false}
+use Rattle.std.proofs.lemmas.Bool.{cond-true, cond-false}
 use Rattle.kinds.specs.Papers.{bit}
 use Rattle.trace_text.specs.Lines.{number_words, numbers_from}
 
 module _ (set number : ℕ) where
-  tested : bit_and (set / 2 ^ number) 1 ≡ bit number set
-  tested = and_mask (set / 2 ^ number) 1
+  pub in_set : eqb (bit number set) 1 ≡ true → codes " " ++ decimal number ≡ number_words set number
+  in_set e = sym (cond-true _ _ _ e)
 
-  pub in_set : bit_and (set / 2 ^ number) 1 ≡ 1 → codes " " ++ decimal number ≡ number_words set number
-  in_set e = sym (cond-true _ _ _ (eq-eqb (bit number set) 1 (sym tested ∙ e)))
-
-  pub not_in_set : (bit_and (set / 2 ^ number) 1 ≡ 1 → ⊥) → number_words set number ≡ []
-  not_in_set ne = cond-false _ _ _ (ne_eqb (bit number set) 1 (λ e. ne (tested ∙ e)))
+  pub not_in_set : (eqb (bit number set) 1 ≡ false) → number_words set number ≡ []
+  not_in_set ne = cond-false _ _ _ ne
 
 last_number : (set number n : ℕ) → numbers_from set number n ++ number_words set (number + n) ≡ numbers_from set number (suc n)
 last_number set number zero =
