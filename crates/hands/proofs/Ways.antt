@@ -1,11 +1,10 @@
 -- What a carry answers on each of its ways.
-use Rattle.std.proofs.Common.{◌≡◌, ℕ, ◌<◌, Bool, true, false, eqb, ◌≢◌, List, length, get_or, set, Some, None, Ok, Err, Option, Result, sym, refl, ap, ◌∙◌, arith, get_or-set_other}
-use Rattle.std.proofs.lemmas.Option.{get_or_from_slice_get, slice_get_within}
+use Rattle.std.proofs.Common.{◌≡◌, ℕ, ◌<◌, Bool, true, false, eqb, ◌≢◌, List, length, set, Some, None, Ok, Option, refl, arith}
+use Rattle.std.proofs.lemmas.Option.{slice_get_within}
 use Rattle.std.proofs.lemmas.Bool.{ne_eqb, eqb-false, cond_both}
 use Rattle.std.specs.List.{slice_get}
 use Rattle.hands.specs.Kind.{Kind}
 use Rattle.hands.specs.Carry.{Outcome, between, carried, refused}
-use Rattle.hands.specs.declared.fault.CarryFault.{CarryFault}
 use Rattle.hands.specs.declared.fault.CarryRefusal.{CarryRefusal}
 use Rattle.hands.specs.declared.fault.CarryRefusal.TheVariants.{OutsideRow, SameHand, CannotGive, CannotTake}
 
@@ -30,14 +29,7 @@ module _ {H L : Type 0} (k : Kind H L) (row : List H) (i j : ℕ) (l : L) (P : O
   by_ways = by_hands (slice_get row i) (slice_get row j) (eqb i j) refl refl refl
 
 module _ {H L : Type 0} (k : Kind H L) (row : List H) (i j : ℕ) (l : L) where
-  -- a refusal leaves the row as it was
-  pub refusal_keeps : (f : CarryFault) → (carried k row i j l).0 ≡ Err f → (Err f, row) ≡ carried k row i j l
-  refusal_keeps f =
-      by_ways k row i j l (λ o. o.0 ≡ Err f → (Err f, row) ≡ o)
-      (λ why e. ap (λ (r : Result (Unit {0}) CarryFault). (r, row)) (sym e))
-      (λ a b _ _ _ _ _ e. let z : ◌≡◌ {A = ℕ} 0 1 = cc in absurd (omega arith))
-
-  -- where nothing refuses, both places are in the row, and what give and take leave is the outcome
+  -- where nothing refuses, both places are in the row
   module _ (ok : (carried k row i j l).0 ≡ Ok tt) where
     abbrev WhenMoved : Type 0 → Outcome H → Type 0
     WhenMoved P o = o.0 ≡ Ok tt → P
@@ -50,12 +42,3 @@ module _ {H L : Type 0} (k : Kind H L) (row : List H) (i j : ℕ) (l : L) where
 
     pub receiver_inside : j < length row
     receiver_inside = by_ways k row i j l (WhenMoved (j < length row)) never (λ a b p q ne g t e. slice_get_within row j b q) ok
-
-    pub done : (x y d e : H) → x ≡ k.given (get_or row i d) l → y ≡ k.taken (get_or (set row i x) j e) l → (Ok tt, set (set row i x) j y) ≡ carried k row i j l
-    done x y d e gave took =
-        by_ways k row i j l (λ o. o.0 ≡ Ok tt → (Ok tt, set (set row i x) j y) ≡ o) (λ why. never why)
-        (λ a b p q ne g t _.
-        let first : x ≡ k.given a l = gave ∙ ap (λ z. k.given z l) (get_or_from_slice_get row i a d p) in
-        let second : y ≡ k.taken b l = took ∙ ap (λ z. k.taken z l) (get_or-set_other row i j x e (λ r. ne (sym r)) ∙ get_or_from_slice_get row j b e q) in
-        λ n. (Ok tt, set (set row i (first n)) j (second n)))
-        ok
