@@ -38,7 +38,8 @@ impl Text {
         self.push_bytes(Buffer::new().format(n).as_bytes());
     }
 
-    // Writes `z` in decimal, after a minus sign if it is below nought.
+    // Writes `z` in decimal, after a minus sign if it is below nought. Apart from `push_number`, since one function over both
+    // types could only promise `N.text n`, which names no digits.
     pub fn push_signed(&mut self, z: i32)
         ensures { shown self.new ≡ added (shown self.old) (signed_decimal z) }
     {
