@@ -6,6 +6,7 @@ use entries::record::Record;
 use faults::file::{FileFault, FileRefusal};
 
 // Puts bytes at the front of a buffer, or leaves it as it was if they do not fit.
+// What the rest of the buffer is after a borrow of its front, as by get_mut, is not proved, so the length is compared first.
 fn put_front(bytes: &[u8], out: &mut [u8]) -> Result<usize, FileFault>
     ensures { (result, out.new) ≡ put bytes.now out.old }
 {
