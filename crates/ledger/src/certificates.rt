@@ -3,7 +3,8 @@ ghost use Rattle.ledger.specs.Certificates.{lowest_from};
 
 use kinds::certificate_set::CertificateSet;
 
-// The lowest certificates of a set, so many of them, going up the numbers from one on.
+// The lowest certificates of a set, so many of them, going up the numbers from one on. A loop, as the closures of a chain
+// would not know that they shift by less than 16.
 pub fn lowest(set: CertificateSet, count: u8, from: u8) -> CertificateSet
     ensures { result.bits ≡ lowest_from count from (9 - from) set.bits }
 {
