@@ -12,7 +12,7 @@ use gamefile::records::records_from;
 use ledger::call::Call;
 use std::alloc::{AllocError, Global};
 
-// The call of a record, made with a card of this number. An open is no call of a table that is there.
+// The call of a record, made with a card of this number. An open is no call of a table that is there, so this is no From.
 pub fn call_of(card: u16, record: Record) -> Option<Call>
     ensures { result ≡ call_of card (view «record») }
 {

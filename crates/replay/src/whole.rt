@@ -18,6 +18,7 @@ pub fn replay(file: &[u8]) -> Result<Game, Stopped>
     let Game { mut table, card } = game;
     match play(&mut table, card, file, next) {
         Ok(card) => Ok(Game { table, card }),
+        // The borrow check does not cover one pattern for both.
         Err(refused) => {
             let Refused { fault, card } = refused;
             let game = Some(Game { table, card });
