@@ -64,9 +64,8 @@ fn show_certificate(
     company: u8,
     place: usize,
     number: u8,
-    held_by_first: bool,
+    table: &str,
 ) -> io::Result<()> {
-    let table = if held_by_first { "first" } else { "second" };
     print!(rt; "company {company}: certificate {number} only at the {table} table with ")?;
     match place {
         0 => rt.println("the offering"),
@@ -88,9 +87,10 @@ fn show_papers(
     let here = one.papers(company, place).certificates();
     let there = other.papers(company, place).certificates();
     for number in 0..9 {
-        let held_by_first = here.contains(number);
-        if held_by_first != there.contains(number) {
-            show_certificate(rt, company, place, number, held_by_first)?;
+        let held = here.contains(number);
+        if held != there.contains(number) {
+            let table = if held { "first" } else { "second" };
+            show_certificate(rt, company, place, number, table)?;
         }
     }
     Ok(())
