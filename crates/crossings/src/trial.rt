@@ -15,6 +15,7 @@ pub(crate) struct Trial {
     pub(crate) crossings: Result<Vec<Crossing>, AllocError>,
 }
 
+// Books derive no copy, so that no call makes one.
 fn copy_of(books: &Books) -> Books
     ensures { result ≡ books.now }
 {
@@ -33,8 +34,8 @@ fn note(crossings: &mut Result<Vec<Crossing>, AllocError>, crossing: Crossing)
     ensures { Written crossings.old (view crossing ∷ []) crossings.new }
 {
     if let Ok(list) = crossings {
-        if list.push(crossing).is_err() {
-            *crossings = Err(AllocError);
+        if let Err(failed) = list.push(crossing) {
+            *crossings = Err(failed.into());
         }
     }
 }

@@ -2,7 +2,8 @@ ghost use Rattle.std.specs.Prelude.{◌≡◌, ◌≤◌, length};
 
 use kinds::cash::Cash;
 
-// The cash row of a new table without its companies: the bank, then the seats. Those beyond the players hold nothing.
+// The cash row of a new table without its companies: the bank, then the seats. Those beyond the players hold nothing. The
+// row has a fixed size, since a deal must not fail for want of memory.
 #[derive(Drop)]
 pub struct Opening {
     pub(crate) players: u8,

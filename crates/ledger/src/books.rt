@@ -2,7 +2,8 @@ use crate::company::Company;
 use kinds::cash::Cash;
 use kinds::trains::Trains;
 
-// What a table holds beside its rule book. Seats and companies count from 1.
+// What a table holds beside its rule book. Seats and companies count from 1. The rows have fixed sizes: a table uses no
+// heap, so that callers in C need none.
 #[derive(Drop)]
 pub struct Books {
     pub players: u8,

@@ -67,7 +67,7 @@ pub trait Moves {
     }
 }
 
-// A company outside the rows has no papers.
+// A company outside the rows has no papers. The length is asked, as what a row becomes through get_mut is not proved.
 fn carry_papers(
     companies: &mut [Company],
     at: usize,

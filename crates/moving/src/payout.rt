@@ -12,6 +12,7 @@ pub fn move_bill<M: Moves>(moves: &mut M, company: u8, amount: u16)
     moves.pay(treasury, 0, u32::from(amount));
 }
 
+// A loop over 1..=players leaves in two ways and has more to prove.
 fn pay_dividends<M: Moves>(moves: &mut M, company: u8, dividend: u16)
     ensures { M.Moved moves.old (dividends (M.books_of moves.old) company dividend 1 (M.books_of moves.old).players) moves.new }
 {

@@ -19,7 +19,7 @@ fn treasury_marks(books: &Books, company: u8) -> i32
     books.marks(books.treasury(company))
 }
 
-// What the company lacks of a price.
+// What the company lacks of a price: never below nought, so it fits a u32.
 pub fn missing_marks(books: &Books, company: u8, price: u16) -> u32
     ensures { result ≡ missing books.now company price }
 {

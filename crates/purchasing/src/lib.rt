@@ -80,7 +80,7 @@ impl Purchase {
         }
     }
 
-    // Tenths gone from the offering once the certificate has left.
+    // Tenths gone from the offering once the certificate has left: at most ten before it, so they fit a u8.
     fn gone_after(self, books: &Books) -> u8
         ensures { result ≡ gone_then books.now self.company self.source }
     {

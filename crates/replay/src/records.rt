@@ -33,6 +33,7 @@ fn refused(refusal: FileRefusal, place: usize, card: Card) -> Result<Card, Refus
     Err(Refused { fault, card })
 }
 
+// The two rounds have other calls and other cards, so each has its own function: a trait over both would be longer.
 fn with_stock_card<B: RuleBook>(
     table: &mut Table<B>,
     card: StockCard,

@@ -44,6 +44,7 @@ fn stack_trains<B: RuleBook>(book: &B) -> [Trains; 9]
     row
 }
 
+// The kinds are the indices 0 to 7.
 fn stack<B: RuleBook>(book: &B) -> Trains
     ensures { result ≡ stack_of (B.meaning book.now).train_count }
 {

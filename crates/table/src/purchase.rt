@@ -9,7 +9,7 @@ use moving::purchase::move_purchase;
 use purchasing::Purchase;
 use rulebook::book::RuleBook;
 
-// Nothing is noted outside the row.
+// Nothing is noted outside the row. Its length is asked, as what a row becomes through get_mut is not proved.
 fn note_purchase(books: &mut Books, seat: u8, company: u8, space: u16, par: u16, floated: bool)
     ensures { books.new ≡ noted_purchase books.old seat company space par floated }
 {

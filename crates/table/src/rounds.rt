@@ -53,7 +53,7 @@ pub(crate) fn close_round<B: RuleBook>(book: &B, books: &mut Books)
     };
 }
 
-// Nothing is noted outside the row.
+// Nothing is noted outside the row. Its length is asked, as what a row becomes through get_mut is not proved.
 fn note_served(books: &mut Books, company: u8)
     ensures { books.new ≡ noted_served books.old company }
 {

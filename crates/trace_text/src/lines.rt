@@ -11,6 +11,7 @@ use kinds::train_load::TrainLoad;
 use std::alloc::AllocError;
 use std::fmt;
 
+// One line for each kind of load. They share only the two hands, which each kind names in its own way.
 fn push_cash(
     text: &mut String,
     players: u8,

@@ -32,7 +32,7 @@ impl fmt::Display for Place {
 pub(crate) fn cash_place_at(players: u8, place: usize) -> Place
     ensures { result ≡ cash_place players place }
 {
-    let seats = players as usize;
+    let seats = usize::from(players);
     match place {
         0 => Place::Bank,
         seat if seat <= seats => Place::Seat(seat),

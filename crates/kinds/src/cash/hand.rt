@@ -25,6 +25,7 @@ impl Hand for Cash {
         i64::from(self.marks) + i64::from(load) <= i64::from(Self::CEILING)
     }
 
+    // A load that can be given or taken fits an i32.
     fn give(&mut self, load: u32) {
         if self.can_give(load) {
             self.marks -= load as i32;

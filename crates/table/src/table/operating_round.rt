@@ -78,6 +78,7 @@ impl<B: RuleBook> Table<B> {
         )
     }
 
+    // A refusal gives the card back, as in close.
     pub fn reopen(&mut self, card: OperatingCard) -> Result<StockCard, (TableFault, OperatingCard)>
         ensures told { told_by result ≡ in_call CallName.Reopen (answer (B.meaning self.old.book) self.old.books (Reopen card.number)) }
         ensures card { MatchResult result (λ next. next.number ≡ self.old.books.round + 1) (λ back. back.1 ≡ card) }

@@ -72,6 +72,7 @@ impl<B: RuleBook> Table<B> {
         )
     }
 
+    // A refusal gives the card back beside the fault; as a pair it can be taken apart in the pattern of an `Err`.
     pub fn close(&mut self, card: StockCard) -> Result<OperatingCard, (TableFault, StockCard)>
         ensures told { told_by result ≡ in_call CallName.Close (answer (B.meaning self.old.book) self.old.books (Close card.number)) }
         ensures card { MatchResult result (λ next. next.number ≡ self.old.books.round + 1) (λ back. back.1 ≡ card) }
