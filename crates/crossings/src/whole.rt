@@ -27,31 +27,14 @@ fn try_call<B: RuleBook>(trial: &mut Trial, book: &B, call: Call)
             company,
             tenths,
             ..
-        } => move_sale(
-            trial,
-            book,
-            Sale {
-                seat,
-                company,
-                tenths,
-            },
-        ),
+        } => move_sale(trial, book, Sale::new(seat, company, tenths)),
         Call::Buy {
             seat,
             company,
             source,
             par,
             ..
-        } => move_purchase(
-            trial,
-            book,
-            Purchase {
-                seat,
-                company,
-                source,
-                space: par,
-            },
-        ),
+        } => move_purchase(trial, book, Purchase::new(seat, company, source, par)),
         Call::Bill {
             company,
             amount,

@@ -19,6 +19,16 @@ pub struct Sale {
 }
 
 impl Sale {
+    pub fn new(seat: u8, company: u8, tenths: u8) -> Sale
+        ensures { result ≡ record { seat = seat; company = company; tenths = tenths } }
+    {
+        Self {
+            seat,
+            company,
+            tenths,
+        }
+    }
+
     fn holds_tenths(self, books: &Books) -> bool
         ensures { not result ≡ (self.tenths == 0 || nat_lt (seat_tenths books.now self.company self.seat) self.tenths) }
     {

@@ -22,25 +22,14 @@ pub fn answer_to<B: RuleBook>(book: &B, books: &Books, call: Call) -> Result<(),
             seat,
             company,
             tenths,
-        } => Sale {
-            seat,
-            company,
-            tenths,
-        }
-        .judge(book, books, card),
+        } => Sale::new(seat, company, tenths).judge(book, books, card),
         Call::Buy {
             card,
             seat,
             company,
             source,
             par,
-        } => Purchase {
-            seat,
-            company,
-            source,
-            space: par,
-        }
-        .judge(book, books, card),
+        } => Purchase::new(seat, company, source, par).judge(book, books, card),
         Call::End { card, seat } => on_stock_turn(books, card, seat),
         Call::Close { card } => judge_close(books, card),
         Call::Bill {

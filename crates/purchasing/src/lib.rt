@@ -27,6 +27,17 @@ pub struct Purchase {
 
 // What it costs and brings about.
 impl Purchase {
+    pub fn new(seat: u8, company: u8, source: u8, space: u16) -> Purchase
+        ensures { result ≡ record { seat = seat; company = company; source = source; space = space } }
+    {
+        Self {
+            seat,
+            company,
+            source,
+            space,
+        }
+    }
+
     pub fn source_set(self, books: &Books) -> CertificateSet
         ensures { result.bits ≡ source_set books.now self.company self.source }
     {

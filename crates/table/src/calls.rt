@@ -29,31 +29,14 @@ fn make_granted<B: RuleBook>(book: &B, books: &mut Books, call: Call)
             company,
             tenths,
             ..
-        } => make_sale(
-            book,
-            books,
-            Sale {
-                seat,
-                company,
-                tenths,
-            },
-        ),
+        } => make_sale(book, books, Sale::new(seat, company, tenths)),
         Call::Buy {
             seat,
             company,
             source,
             par,
             ..
-        } => make_purchase(
-            book,
-            books,
-            Purchase {
-                seat,
-                company,
-                source,
-                space: par,
-            },
-        ),
+        } => make_purchase(book, books, Purchase::new(seat, company, source, par)),
         Call::End { seat, .. } => end_turn(books, seat),
         Call::Close { .. } => close_round(book, books),
         Call::Bill {
