@@ -1,9 +1,10 @@
 -- Sets of small numbers, bit by bit.
 use Rattle.std.specs.Prelude.{◌≡◌, ℕ, zero, suc, ◌+◌, ◌*◌, ◌/◌, ◌%◌, ◌^◌, ◌<◌, ◌≤◌, true, false, ◌⊎◌, ◌==◌, bit_or, count_ones, refl}
-use Rattle.std.proofs.Common.{min, sym, ap, subst, ◌∙◌, inl, inr, ⊎_elim, add-one, arith, pow_pos}
+use Rattle.std.proofs.Common.{min, sym, ap, subst, ◌∙◌, inl, inr, ⊎_elim, add-one, arith, lit<, pow_pos}
 use Rattle.std.proofs.Math.Nat.{div-lt_iff_lt-mul}
-use Rattle.std.specs.Int.Bits.{bit_and, bit_xor}
+use Rattle.std.specs.Int.Bits.{bit_and, bit_xor, and_zero_l, and_zero_r}
 use Rattle.std.specs.Int.Count.{ones_step}
+use Rattle.std.proofs.Math.Pow.{pow-lt}
 use Rattle.std.proofs.lemmas.Nat.{shr_below, shr-shr, and_shr, and_mod, xor_shr, xor_mod, ones-le}
 use Rattle.std.proofs.lemmas.Nat.Bits.{bit_at-zero, bit_at-lt, bit_at_above, bit_at_and, bit_at_or, bit_at_xor, same_from_bits}
 use Rattle.std.proofs.lemmas.Bool.{eqb-true, eqb-false, eq-eqb, cases_lt}
@@ -32,12 +33,25 @@ low (suc n) h = inr (omega arith)
 pub by_bits : (k a b : ℕ) → a < 2 ^ k → b < 2 ^ k → ((t : ℕ) → bit t a ≡ bit t b) → a ≡ b
 by_bits k a b ha hb h = same_from_bits a b h
 
+below_power : (n : ℕ) → n < 2 ^ n
+below_power zero = lit< tt
+below_power (suc n) = let h = below_power n in let p : 2 ^ n < 2 ^ suc n = pow-lt (omega arith) in omega arith
+
 -- a set that has no number from k on
 pub below_from : (k n : ℕ) → ((t : ℕ) → k ≤ t → bit t n ≡ 0) → n < 2 ^ k
 below_from k n h =
     let none : n / 2 ^ k ≡ 0 = same_from_bits (n / 2 ^ k) 0 (λ t. ap (λ z. z % 2) (shr-shr n k t) ∙ h (k + t) (omega arith) ∙ sym (bit_zero t)) in
     let below : n < 1 * 2 ^ k = (div-lt_iff_lt-mul (pow_pos k)).0 (omega (arith, none)) in
     omega arith
+
+-- of two bits
+and_under : (u v : ℕ) → u < 2 → v < 2 → v ≤ u → bit_and u v ≡ v
+and_under u v hu hv le =
+    ⊎_elim (λ e. ap (bit_and u) e ∙ and_zero_r u ∙ sym e) (λ e. let f : u ≡ 1 = omega arith in ap (λ z. bit_and z v) f ∙ ap (bit_and 1) e ∙ sym e) (low v hv)
+
+and_apart : (u v : ℕ) → u < 2 → v < 2 → u + v ≤ 1 → bit_and u v ≡ 0
+and_apart u v hu hv le =
+    ⊎_elim (λ e. ap (bit_and u) e ∙ and_zero_r u) (λ e. let f : u ≡ 0 = omega arith in ap (λ z. bit_and z v) f ∙ and_zero_l v) (low v hv)
 
 module _ (k p l : ℕ) (hp : p < 2 ^ k) (hl : l < 2 ^ k) where
   pub all_there : ((t : ℕ) → bit t l ≤ bit t p) → bit_and p l ≡ l
