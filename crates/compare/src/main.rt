@@ -27,102 +27,98 @@ fn say_refused(rt: &HostRuntime, name: &str, fault: FileFault) -> io::Result<()>
     println!(rt; "{name}: {fault}")
 }
 
-// A cash hand of each table, by the place that it has in both rows.
-fn show_cash(
-    rt: &HostRuntime,
-    word: &str,
-    number: u8,
-    one: &Books,
-    other: &Books,
-    place: usize,
-) -> io::Result<()> {
-    let (a, b) = (one.marks(place), other.marks(place));
-    if a == b {
-        return Ok(());
-    }
-    println!(rt; "{word} {number}: cash {a} and {b}")
+// Two tables side by side, and where to say in which hands they differ.
+#[derive(Clone, Copy)]
+struct Comparison<'a> {
+    rt: &'a HostRuntime,
+    one: &'a Books,
+    other: &'a Books,
 }
 
-fn show_cash_row(rt: &HostRuntime, one: &Books, other: &Books, companies: u8) -> io::Result<()> {
-    let (a, b) = (one.marks(0), other.marks(0));
-    if a != b {
-        println!(rt; "bank: cash {a} and {b}")?;
-    }
-    for seat in 1..=one.players {
-        show_cash(rt, "seat", seat, one, other, usize::from(seat))?;
-    }
-    for company in 1..=companies {
-        let place = one.treasury(company);
-        show_cash(rt, "company", company, one, other, place)?;
-    }
-    Ok(())
-}
-
-// A certificate that one table has in this hand and the other has not.
-fn show_certificate(
-    rt: &HostRuntime,
-    company: u8,
-    place: usize,
-    number: u8,
-    table: &str,
-) -> io::Result<()> {
-    print!(rt; "company {company}: certificate {number} only at the {table} table with ")?;
-    match place {
-        0 => rt.println("the offering"),
-        1 => rt.println("the pool"),
-        _ => {
-            let seat = place - 1;
-            println!(rt; "seat {seat}")
-        }
-    }
-}
-
-fn show_papers(
-    rt: &HostRuntime,
-    one: &Books,
-    other: &Books,
-    company: u8,
-    place: usize,
-) -> io::Result<()> {
-    let here = one.papers(company, place).certificates();
-    let there = other.papers(company, place).certificates();
-    for number in 0..9 {
-        let held = here.contains(number);
-        if held != there.contains(number) {
-            let table = if held { "first" } else { "second" };
-            show_certificate(rt, company, place, number, table)?;
-        }
-    }
-    Ok(())
-}
-
-// The stack has place 0, and each company the place of its number.
-fn show_trains(rt: &HostRuntime, one: &Books, other: &Books, place: usize) -> io::Result<()> {
-    for kind in 0..8u8 {
-        let (a, b) = (one.trains(place, kind), other.trains(place, kind));
+impl Comparison<'_> {
+    // A cash hand of each table, by its name and by the place that it has in both rows.
+    fn show_cash(&self, hand: &str, place: usize) -> io::Result<()> {
+        let (a, b) = (self.one.marks(place), self.other.marks(place));
         if a == b {
-            continue;
+            return Ok(());
         }
-        if place == 0 {
-            println!(rt; "stack: trains of kind {kind} {a} and {b}")?;
-        } else {
-            println!(rt; "company {place}: trains of kind {kind} {a} and {b}")?;
-        }
+        println!(self.rt; "{hand}: cash {a} and {b}")
     }
-    Ok(())
-}
 
-fn show_differences(rt: &HostRuntime, one: &Books, other: &Books, companies: u8) -> io::Result<()> {
-    show_cash_row(rt, one, other, companies)?;
-    for company in 1..=companies {
-        for place in 0..usize::from(one.players) + 2 {
-            show_papers(rt, one, other, company, place)?;
+    fn show_cash_row(&self, companies: u8) -> io::Result<()> {
+        self.show_cash("bank", 0)?;
+        for seat in 1..=self.one.players {
+            let hand = format!(in self.rt.alloc(); "seat {seat}")?;
+            self.show_cash(&hand, usize::from(seat))?;
+        }
+        for company in 1..=companies {
+            let hand = format!(in self.rt.alloc(); "company {company}")?;
+            self.show_cash(&hand, self.one.treasury(company))?;
+        }
+        Ok(())
+    }
+
+    // A certificate that one table has in this hand and the other has not.
+    fn show_certificate(
+        &self,
+        company: u8,
+        place: usize,
+        number: u8,
+        table: &str,
+    ) -> io::Result<()> {
+        let rt = self.rt;
+        print!(rt; "company {company}: certificate {number} only at the {table} table with ")?;
+        match place {
+            0 => rt.println("the offering"),
+            1 => rt.println("the pool"),
+            _ => {
+                let seat = place - 1;
+                println!(rt; "seat {seat}")
+            }
         }
     }
-    for place in 0..=usize::from(companies) {
-        show_trains(rt, one, other, place)?;
+
+    fn show_papers(&self, company: u8, place: usize) -> io::Result<()> {
+        let here = self.one.papers(company, place).certificates();
+        let there = self.other.papers(company, place).certificates();
+        for number in 0..9 {
+            let held = here.contains(number);
+            if held != there.contains(number) {
+                let table = if held { "first" } else { "second" };
+                self.show_certificate(company, place, number, table)?;
+            }
+        }
+        Ok(())
     }
-    Ok(())
+
+    // The stack has place 0, and each company the place of its number.
+    fn show_trains(&self, place: usize) -> io::Result<()> {
+        for kind in 0..8 {
+            let (a, b) = (self.one.trains(place, kind), self.other.trains(place, kind));
+            if a == b {
+                continue;
+            }
+            if place == 0 {
+                println!(self.rt; "stack: trains of kind {kind} {a} and {b}")?;
+            } else {
+                println!(self.rt; "company {place}: trains of kind {kind} {a} and {b}")?;
+            }
+        }
+        Ok(())
+    }
+
+    fn show_all(&self, companies: u8) -> io::Result<()> {
+        self.show_cash_row(companies)?;
+        for company in 1..=companies {
+            for place in 0..usize::from(self.one.players) + 2 {
+                self.show_papers(company, place)?;
+            }
+        }
+        for place in 0..=usize::from(companies) {
+            self.show_trains(place)?;
+        }
+        Ok(())
+    }
 }
 
 // The verdict comes from the call that leads both lives from the opening; the tables show where they differ.
@@ -143,7 +139,8 @@ fn compare_games(
     match compare_lives(&book, players, &calls, &others) {
         Ok(true) => rt.println("equal in every hand"),
         _ => {
-            show_differences(rt, one.table.books(), other.table.books(), book.companies())?;
+            let (one, other) = (one.table.books(), other.table.books());
+            Comparison { rt, one, other }.show_all(book.companies())?;
             rt.println("not equal")
         }
     }

@@ -18,15 +18,14 @@ fn agrees(rt: &HostRuntime, name: &str) -> io::Result<bool> {
 
 fn check_games(rt: &HostRuntime) -> io::Result<()> {
     let index = fs::read_to_string(rt, "index.txt")?;
-    let mut played: u64 = 0;
     let mut differ: u64 = 0;
     for name in index.lines() {
         if !agrees(rt, name)? {
             println!(rt; "{name} differs")?;
             differ = differ.saturating_add(1);
         }
-        played = played.saturating_add(1);
     }
+    let played = index.lines().count();
     println!(rt; "{played} games played, {differ} differ")
 }
 
