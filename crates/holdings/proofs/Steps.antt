@@ -1,6 +1,6 @@
 -- The definitions of who holds what, over lists of numbers; and one seat more.
 use lib.Bits.{bit_and, and_le_r}
-use Rattle.std.proofs.Common.{◌≡◌, ℕ, zero, suc, ◌+◌, ◌-◌, ◌*◌, ◌<◌, ◌≤◌, Bool, true, false, cond, ltb, List, map, filter, fold, find, sum, Some, None, refl, sym, ap, ◌∙◌, add-one, arith}
+use Rattle.std.proofs.Common.{◌≡◌, ℕ, zero, suc, ◌+◌, ◌-◌, ◌*◌, ◌<◌, ◌≤◌, cond, ltb, map, fold, find, sum, Option, Some, None, refl, sym, ap, ◌∙◌, add-one, arith}
 use lib.Count.{ones-le, ones}
 use Rattle.std.specs.List.{range_with_len}
 use Rattle.std.proofs.lemmas.List.Sums.{sum_by-cons}
@@ -46,27 +46,17 @@ module _ (s : Books) (seat : ℕ) where
 
 -- the next company, over those from k + 1 on: each waits for its turn, or it does not
 module _ (b : Book) (s : Books) where
-  best_over : (k n : ℕ) → fold (better b s) (next_of b s k) (filter (waiting s) (range_with_len (k + 1) n)) ≡ next_of b s (k + n)
+  abbrev pub with_company : Option ℕ → ℕ → Option ℕ
+  with_company best company = cond (waiting s company) (better b s best company) best
+
+  best_over : (k n : ℕ) → fold with_company (next_of b s k) (range_with_len (k + 1) n) ≡ next_of b s (k + n)
   best_over k zero = let same : k ≡ k + zero = omega arith in ap (next_of b s) same
   best_over k (suc n) =
       let index : k + 1 + n ≡ k + suc n = omega arith in
-      one (waiting s (k + 1)) refl ∙ best_over (k + 1) n ∙ ap (next_of b s) index
-    where
-      rest : List ℕ
-      rest = filter (waiting s) (range_with_len (k + 1 + 1) n)
+      let next : next_of b s (k + 1) ≡ with_company (next_of b s k) (k + 1) = ap (next_of b s) (add-one k) ∙ ap (with_company (next_of b s k)) (sym (add-one k)) in
+      ap (λ o. fold with_company o (range_with_len (k + 1 + 1) n)) (sym next) ∙ best_over (k + 1) n ∙ ap (next_of b s) index
 
-      looked_at : next_of b s (k + 1) ≡ cond (waiting s (k + 1)) (better b s (next_of b s k) (k + 1)) (next_of b s k)
-      looked_at =
-          ap (next_of b s) (add-one k)
-          ∙ ap (λ m. cond (waiting s m) (better b s (next_of b s k) m) (next_of b s k)) (sym (add-one k))
-
-      one : (w : Bool) → waiting s (k + 1) ≡ w → fold (better b s) (next_of b s k) (filter (waiting s) (range_with_len (k + 1) (suc n))) ≡ fold (better b s) (next_of b s (k + 1)) rest
-      one true e =
-          ap (fold (better b s) (next_of b s k)) (cond-true _ _ _ e) ∙ sym (ap (λ o. fold (better b s) o rest) (looked_at ∙ cond-true _ _ _ e))
-      one false e =
-          ap (fold (better b s) (next_of b s k)) (cond-false _ _ _ e) ∙ sym (ap (λ o. fold (better b s) o rest) (looked_at ∙ cond-false _ _ _ e))
-
-  pub next_found : (n : ℕ) → fold (better b s) None (filter (waiting s) (range_with_len 1 n)) ≡ next_of b s n
+  pub next_found : (n : ℕ) → fold with_company None (range_with_len 1 n) ≡ next_of b s n
   next_found n = let same : 0 + n ≡ n = omega arith in best_over 0 n ∙ ap (next_of b s) same
 
 -- one seat more is seen, and the leader of those seen before stays or gives way

@@ -83,13 +83,18 @@ pub fn price_now<B: RuleBook>(book: &B, books: &Books, company: u8) -> u16
     book.price(books.space(company))
 }
 
-// Among those without a turn in this round: highest price, then lowest number.
+// Among those without a turn in this round: highest price, then lowest number. A book has 8 companies at most; one fold over
+// a range that ends before its end is unrolled, which `1..=n` and a filter before the fold are not.
 pub fn next_company_of<B: RuleBook>(book: &B, books: &Books) -> Option<u8>
     ensures { result ≡ next_company (B.meaning book.now) books.now }
 {
-    (1..=book.companies())
-        .filter(|&company| is_waiting(books, company))
-        .fold(None, |best, company| better_of(book, books, best, company))
+    (1..book.companies() + 1).fold(None, |best, company| {
+        if is_waiting(books, company) {
+            better_of(book, books, best, company)
+        } else {
+            best
+        }
+    })
 }
 
 fn better_of<B: RuleBook>(book: &B, books: &Books, best: Option<u8>, company: u8) -> Option<u8>

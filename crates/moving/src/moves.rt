@@ -95,6 +95,8 @@ impl Moves for Books {
         self
     }
 
+    // Inlined, as the crossing is made where the move is known: it is then neither stored nor matched.
+    #[inline(always)]
     fn cross(&mut self, crossing: Crossing) {
         match crossing {
             Crossing::Cash {

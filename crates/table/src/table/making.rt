@@ -10,6 +10,8 @@ use ledger::call::Call;
 use rulebook::book::RuleBook;
 
 impl<B: RuleBook> Table<B> {
+    // Inlined, so that each method makes its own call and no other.
+    #[inline(always)]
     pub(crate) fn make(&mut self, name: CallName, call: Call) -> Result<(), TableFault>
         ensures told { result ≡ in_call name (answer (B.meaning self.old.book) self.old.books call) }
         ensures made { self.new.books ≡ after (B.meaning self.old.book) self.old.books call }
