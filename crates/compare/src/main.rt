@@ -36,24 +36,26 @@ struct Comparison<'a> {
 }
 
 impl Comparison<'_> {
-    // A cash hand of each table, by its name and by the place that it has in both rows.
-    fn show_cash(&self, hand: &str, place: usize) -> io::Result<()> {
+    // A seat's or a company's cash hand at each table, by the place that it has in both rows.
+    fn show_cash(&self, word: &str, number: u8, place: usize) -> io::Result<()> {
         let (a, b) = (self.one.marks(place), self.other.marks(place));
         if a == b {
             return Ok(());
         }
-        println!(self.rt; "{hand}: cash {a} and {b}")
+        println!(self.rt; "{word} {number}: cash {a} and {b}")
     }
 
+    // The bank has no number. No line needs memory of its own, so that none can fail for want of it.
     fn show_cash_row(&self, companies: u8) -> io::Result<()> {
-        self.show_cash("bank", 0)?;
+        let (a, b) = (self.one.marks(0), self.other.marks(0));
+        if a != b {
+            println!(self.rt; "bank: cash {a} and {b}")?;
+        }
         for seat in 1..=self.one.players {
-            let hand = format!(in self.rt.alloc(); "seat {seat}")?;
-            self.show_cash(&hand, usize::from(seat))?;
+            self.show_cash("seat", seat, usize::from(seat))?;
         }
         for company in 1..=companies {
-            let hand = format!(in self.rt.alloc(); "company {company}")?;
-            self.show_cash(&hand, self.one.treasury(company))?;
+            self.show_cash("company", company, self.one.treasury(company))?;
         }
         Ok(())
     }
@@ -149,10 +151,13 @@ fn compare_games(
 fn compare_files(rt: &HostRuntime, one: &str, other: &str) -> io::Result<()> {
     let first = read_file(rt, one)?;
     let second = read_file(rt, other)?;
-    match (replay(&first), replay(&second)) {
-        (Ok(a), Ok(b)) => compare_games(rt, &a, &b, &first, &second),
-        (Err(stopped), _) => say_refused(rt, one, stopped.fault),
-        (_, Err(stopped)) => say_refused(rt, other, stopped.fault),
+    // The second file is played only where the first one is not refused.
+    match replay(&first) {
+        Ok(a) => match replay(&second) {
+            Ok(b) => compare_games(rt, &a, &b, &first, &second),
+            Err(stopped) => say_refused(rt, other, stopped.fault),
+        },
+        Err(stopped) => say_refused(rt, one, stopped.fault),
     }
 }
 
