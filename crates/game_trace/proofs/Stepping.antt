@@ -1,5 +1,5 @@
 -- A record that is made into a call, and told.
-use Rattle.std.proofs.Common.{◌≡◌, ℕ, List, ◌++◌, Ok, Err, Option, Result, refl, ap, ◌∙◌, subst}
+use Rattle.std.proofs.Common.{◌≡◌, ℕ, List, ◌++◌, IfOk, Ok, Err, Option, Result, refl, ap, ◌∙◌, subst}
 use Rattle.std.specs.Result.{result_ok}
 use Rattle.entries.specs.Entry.{Entry}
 use Rattle.listing.specs.Lines.{line}
@@ -35,3 +35,8 @@ pub granted_lines : (b : Book) (s u : Books) (card place : ℕ) (e : Entry) (xs 
 granted_lines b s u card place e xs ys p q r =
     ap (λ (v : Books). line place e ++ crossing_lines v.players (listed xs)) p
     ∙ ap (λ (l : List RuleCrossing). line place e ++ crossing_lines s.players l) (ap listed q ∙ r)
+
+-- a last piece that is also the answer
+pub last_made : {X Y : Type 0} (r : Result X Y) (a text b xs ys : List ℕ) → IfOk r (λ _. Pushed text b xs) → text ++ xs ≡ a ++ ys → IfOk r (λ _. Pushed a b ys)
+last_made (Ok x) a text b xs ys p e = record { joined = p.joined ∙ e }
+last_made (Err y) a text b xs ys p e = tt

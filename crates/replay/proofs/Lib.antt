@@ -1,5 +1,5 @@
 pub mod FirstRecord
-mod Opens
+pub mod Opens
 pub mod OwnCard
 mod Lived
 mod Ends

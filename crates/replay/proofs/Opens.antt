@@ -1,9 +1,10 @@
 -- What a file leaves, by what its first record opens.
-use Rattle.std.proofs.Common.{◌≡◌, ℕ, Bool, true, false, cond, eqb, ltb, List, [], length, Some, None, Ok, Err, Option, Result, refl, ap, ◌∙◌}
+use Rattle.std.proofs.Common.{◌≡◌, ℕ, Bool, true, false, cond, eqb, ltb, List, [], length, Some, None, Ok, Err, Option, Result, refl, ap, ◌∙◌, subst, arith, MatchResult}
 use Rattle.faults.specs.Layers.{in_call, at_place}
 use Rattle.faults.specs.declared.file.FileFault.{FileFault}
-use Rattle.faults.specs.declared.file.FileRefusal.TheVariants.{OpenMisplaced, FileTooLong}
+use Rattle.faults.specs.declared.file.FileRefusal.TheVariants.{OpenMisplaced, FileTooLong, Table}
 use Rattle.faults.specs.declared.table.CallName.TheVariants.{Open}
+use Rattle.faults.specs.declared.table.TableFault.{TableFault}
 use Rattle.entries.specs.Entry.{Entry, opens, sells, buys, ends, closes, bills, pays_out, buys_train, is_done, reopens}
 use Rattle.entries.specs.Reading.{read_at}
 use Rattle.entries.specs.Whole.{Outcome, onward, reading_by, reading}
@@ -64,6 +65,17 @@ module _ (file : List ℕ) where
 -- said of what an opening answers
 pub opened_replay : (file : List ℕ) (r : Result SeenOpening FileFault) → r ≡ opening file → opened_then file r ≡ replayed file
 opened_replay file r e = ap (opened_then file) e ∙ by_opening file
+
+-- a refusal comes up with its place, and a granted answer as it is
+pub refused_up : {T : Type 0} (P : T → Type 0) (a : Result Books TableFault) (place : ℕ) (fault : FileFault) (r : Result T TableFault) → MatchResult r P (λ e. a ≡ Err e) → at_place place r ≡ Err fault → at_place place a ≡ Err fault
+refused_up P a place fault (Ok v) told up = let z : ◌≡◌ {A = ℕ} 0 1 = cc in absurd (omega arith)
+refused_up P a place fault (Err e) told up =
+    let same : record { refusal = Table e; place = place } ≡ fault = cc in
+    ap (at_place place) told ∙ ap (λ (f : FileFault). Err f) same
+
+pub granted_up : {T : Type 0} (P : T → Type 0) (a : Result Books TableFault) (place : ℕ) (v : T) (r : Result T TableFault) → MatchResult r P (λ e. a ≡ Err e) → at_place place r ≡ Ok v → P v
+granted_up P a place v (Ok w) told up = let same : w ≡ v = cc in subst P same told
+granted_up P a place v (Err e) told up = let z : ◌≡◌ {A = ℕ} 0 1 = cc in absurd (omega arith)
 
 -- the same game, said of the book and the card that came back
 pub same_game : (book last : PrintedBook) (p q : Played) (r : Replayed) → last ≡ book → p ≡ q → game_played book q ≡ r → game_played last p ≡ r

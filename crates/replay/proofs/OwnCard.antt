@@ -17,7 +17,7 @@ use Rattle.replay.specs.Calls.{call_of, name_of, belongs}
 use Rattle.replay.specs.Laws.{entry_of}
 use Rattle.replay.specs.Playing.{Played, fault_of, next_card, call_played, not_made, asked, record_played}
 
-triple : {s t : Books} {card held : ℕ} {fault told : Option FileFault} → s ≡ t → card ≡ held → fault ≡ told → ◌≡◌ {A = Played} (s, card, fault) (t, held, told)
+pub triple : {s t : Books} {card held : ℕ} {fault told : Option FileFault} → s ≡ t → card ≡ held → fault ≡ told → ◌≡◌ {A = Played} (s, card, fault) (t, held, told)
 triple p q r = cc
 
 both_true : (x y : Bool) → (x && y) ≡ true → (x ≡ true) × (y ≡ true)

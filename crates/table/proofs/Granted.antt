@@ -1,10 +1,13 @@
 -- What a granted call has passed.
-use Rattle.std.proofs.Common.{◌≡◌, ℕ, ◌+◌, ◌%◌, ◌<◌, ◌≤◌, Bool, true, false, not, eqb, Ok, Err, refl, arith}
-use Rattle.std.proofs.lemmas.Bool.{not-true, not-false, and_parts, leb-false, eqb-true, eqb-false}
+use Rattle.std.proofs.Common.{◌≡◌, ℕ, ◌+◌, ◌%◌, ◌<◌, ◌≤◌, Bool, true, false, not, eqb, leb, Some, None, Ok, Err, Option, sym, refl, arith}
+use Rattle.std.proofs.lemmas.Bool.{not-true, not-false, and_parts, leb-true, leb-false, eqb-true, eqb-false}
 use Rattle.faults.specs.declared.table.TableRefusal.{TableRefusal}
-use Rattle.ledger.specs.Answers.{Answer, granted, refused_if, and_then, odd, on_stock_turn}
+use Rattle.rulebook.specs.Book.{Book}
+use Rattle.rulebook.specs.Lawful.{Lawful}
+use Rattle.ledger.specs.Answers.{Answer, granted, refused_if, and_then, odd, on_stock_turn, on_operating_turn, same_company}
+use Rattle.ledger.specs.Holdings.{is_company}
 use Rattle.ledger.specs.Operating.{reopen_answer}
-use Rattle.ledger.specs.Stock.{close_answer}
+use Rattle.ledger.specs.Stock.{sell_answer, buy_answer, close_answer}
 use Rattle.ledger.specs.declared.books.Books.{Books}
 use Rattle.table.specs.Bounds.{Bounded}
 
@@ -15,6 +18,33 @@ if_passed false why next e = (refl, e)
 then_passed : (a next : Answer) → and_then a next ≡ granted → (a ≡ granted) × (next ≡ granted)
 then_passed (Ok x) next e = (refl, e)
 then_passed (Err why) next e = let z : ◌≡◌ {A = ℕ} 0 1 = cc in absurd (omega arith)
+
+company_in_book : (b : Book) → Lawful b → (company : ℕ) → is_company b company ≡ true → company ≤ 8
+company_in_book b law company e =
+    let le = leb-true company b.companies (and_parts (leb 1 company) (leb company b.companies) e).1 in
+    let most = law.companies_range.1 in
+    omega arith
+
+module _ (b : Book) (law : Lawful b) (s : Books) where
+  pub sale_range : (card seat company tenths : ℕ) → granted ≡ sell_answer b s card seat company tenths → company ≤ 8
+  sale_range card seat company tenths e =
+      let p = then_passed _ _ (sym e) in
+      company_in_book b law company (not-false _ (if_passed _ _ _ p.1).0)
+
+  pub purchase_range : (card seat company source space : ℕ) → granted ≡ buy_answer b s card seat company source space → company ≤ 8
+  purchase_range card seat company source space e =
+      let p = then_passed _ _ (then_passed _ _ (sym e)).1 in
+      company_in_book b law company (not-false _ (if_passed _ _ _ p.0).0)
+
+-- the company on turn
+is_same : (o : Option ℕ) (company : ℕ) → same_company o company ≡ true → o ≡ Some company
+is_same None company e = let z : ◌≡◌ {A = ℕ} 0 1 = cc in absurd (omega arith)
+is_same (Some n) company e = let f = eqb-true n company e in cc
+
+pub turn_range : (s : Books) → Bounded s → (card company : ℕ) (next : Answer) → granted ≡ and_then (on_operating_turn s card company) next → company ≤ 8
+turn_range s ok card company next e =
+    let turn = (if_passed _ _ _ (then_passed _ _ (sym e)).0).1 in
+    ok.numbered company (is_same s.operating.company company (not-false _ (if_passed _ _ _ turn).0))
 
 -- a seat on turn has not ended the round by passing
 pub passes_left : (s : Books) (card seat : ℕ) → on_stock_turn s card seat ≡ granted → s.stock.passes < s.players
